@@ -1,0 +1,61 @@
+-- Laws on lists: a list made of a function, a test of every element. Assumes nothing.
+use mathlib.Core.Path.{_≡_, refl, sym, ap, _∙_}
+use mathlib.Core.Bool.{Bool, true, false, _&&_, false≢true}
+use mathlib.Core.List.{List, [], _∷_, _++_, map}
+use Prim.Native.Nat.{ℕ, zero, suc, _+_, _<_, _≤_, suc-le-suc}
+use native.Mathlib.Nat.{not-suc-le-zero, le-of-suc-le-suc}
+use native.Mathlib.Omega.{arith}
+use lib.ListN.{length, getD}
+use Rattle.table.specs.Lists.{tabulate, sum, all, least}
+
+pub and-left : (a b : Bool) → (a && b) ≡ true → a ≡ true
+and-left true b h = refl
+and-left false b h = h
+
+pub and-right : (a b : Bool) → (a && b) ≡ true → b ≡ true
+and-right true b h = h
+and-right false b h = absurd (false≢true h)
+
+module _ {ℓ} {A : Type ℓ} where
+  pub length-tabulate : (n : ℕ) (f : ℕ → A) → length (tabulate n f) ≡ n
+  unfolding tabulate
+  length-tabulate zero f = refl
+  length-tabulate (suc n) f = ap suc (length-tabulate n (λ i. f (suc i)))
+
+  pub getD-tabulate : (n : ℕ) (f : ℕ → A) (i : ℕ) (d : A) → i < n → getD (tabulate n f) i d ≡ f i
+  unfolding tabulate
+  getD-tabulate zero f i d h = absurd (not-suc-le-zero h)
+  getD-tabulate (suc n) f zero d h = refl
+  getD-tabulate (suc n) f (suc i) d h = getD-tabulate n (λ i. f (suc i)) i d (le-of-suc-le-suc h)
+
+  pub tabulate-ext : (n : ℕ) (f g : ℕ → A) → ((i : ℕ) → i < n → f i ≡ g i) → tabulate n f ≡ tabulate n g
+  unfolding tabulate
+  tabulate-ext zero f g h = refl
+  tabulate-ext (suc n) f g h =
+      let e : f 0 ≡ g 0 = h 0 (omega arith) in
+      let es : tabulate n (λ i. f (suc i)) ≡ tabulate n (λ i. g (suc i)) = tabulate-ext n _ _ (λ i l. h (suc i) (suc-le-suc l)) in
+      cc
+
+  -- every element passes a test exactly if the element at each place does
+  pub all-intro : (f : A → Bool) (l : List A) (d : A) → ((i : ℕ) → i < length l → f (getD l i d) ≡ true) → all f l ≡ true
+  unfolding all
+  all-intro f [] d h = refl
+  all-intro f (x ∷ l) d h = rw (h 0 (omega arith)) (all-intro f l d (λ i p. h (suc i) (suc-le-suc p)))
+
+  pub all-elim : (f : A → Bool) (l : List A) (d : A) → all f l ≡ true → (i : ℕ) → i < length l → f (getD l i d) ≡ true
+  unfolding all
+  all-elim f [] d h i p = absurd (not-suc-le-zero p)
+  all-elim f (x ∷ l) d h zero p = and-left (f x) (all f l) h
+  all-elim f (x ∷ l) d h (suc i) p = all-elim f l d (and-right (f x) (all f l) h) i (le-of-suc-le-suc p)
+
+  pub all-fails : (f : A → Bool) (l : List A) (d : A) (i : ℕ) → i < length l → f (getD l i d) ≡ false → all f l ≡ false
+  all-fails f l d i p e = go (all f l) refl
+    where
+      go : (b : Bool) → all f l ≡ b → all f l ≡ false
+      go false q = q
+      go true q = absurd (false≢true (sym e ∙ all-elim f l d q i p))
+
+pub map-tabulate {ℓ κ} : {A : Type ℓ} {B : Type κ} (h : A → B) (n : ℕ) (f : ℕ → A) → map h (tabulate n f) ≡ tabulate n (λ i. h (f i))
+unfolding tabulate
+map-tabulate h zero f = refl
+map-tabulate h (suc n) f = ap (λ l. h (f 0) ∷ l) (map-tabulate h n (λ i. f (suc i)))

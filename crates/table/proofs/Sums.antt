@@ -1,0 +1,72 @@
+-- Laws on finite sums. Assumes nothing.
+use mathlib.Core.Path.{_≡_, refl, sym, ap, _∙_}
+use mathlib.Core.Logic.{⊎-elim}
+use mathlib.Core.List.{map}
+use Prim.Native.Nat.{ℕ, zero, suc, _+_, _*_, _≤_, _<_}
+use native.Mathlib.Nat.{le-of-suc-le-suc, not-suc-le-zero, eq-or-lt-of-le, mul-zero, mul-add}
+use native.Mathlib.Omega.{arith}
+use Rattle.table.specs.Lists.{tabulate, sum, sumTo}
+
+pub sum-ext : (n : ℕ) (f g : ℕ → ℕ) → ((j : ℕ) → j < n → f j ≡ g j) → sumTo n f ≡ sumTo n g
+unfolding sumTo
+sum-ext zero f g h = refl
+sum-ext (suc n) f g h = omega (arith, sum-ext n f g (λ j l. h j (omega arith)), h n (omega arith))
+
+pub sum-le : (n : ℕ) (f g : ℕ → ℕ) → ((j : ℕ) → j < n → f j ≤ g j) → sumTo n f ≤ sumTo n g
+unfolding sumTo
+sum-le zero f g h = omega arith
+sum-le (suc n) f g h = omega (arith, sum-le n f g (λ j l. h j (omega arith)), h n (omega arith))
+
+pub sum-lt : (n : ℕ) (f g : ℕ → ℕ) (k : ℕ) → k < n → f k < g k → ((j : ℕ) → j < n → f j ≤ g j) → sumTo n f < sumTo n g
+unfolding sumTo
+sum-lt zero f g k h s e = absurd (not-suc-le-zero h)
+sum-lt (suc n) f g k h s e = ⊎-elim
+    (λ q. let a : f k ≡ f n = ap f q in
+    let b : g k ≡ g n = ap g q in
+    omega (arith, sum-le n f g (λ j l. e j (omega arith))))
+    (λ l. omega (arith, sum-lt n f g k l s (λ j i. e j (omega arith)), e n (omega arith)))
+    (eq-or-lt-of-le (le-of-suc-le-suc h))
+
+pub sum-zero : (n : ℕ) → sumTo n (λ j. 0) ≡ 0
+unfolding sumTo
+sum-zero zero = refl
+sum-zero (suc n) = omega (arith, sum-zero n)
+
+pub sum-add : (n : ℕ) (f g : ℕ → ℕ) → sumTo n (λ j. f j + g j) ≡ sumTo n f + sumTo n g
+unfolding sumTo
+sum-add zero f g = refl
+sum-add (suc n) f g = omega (arith, sum-add n f g)
+
+pub sum-mul : (n w : ℕ) (f : ℕ → ℕ) → sumTo n (λ j. w * f j) ≡ w * sumTo n f
+unfolding sumTo
+sum-mul zero w f = sym (mul-zero w)
+sum-mul (suc n) w f = omega (arith, sum-mul n w f, mul-add w (sumTo n f) (f n))
+
+pub sum-swap : (n k : ℕ) (f : ℕ → ℕ → ℕ) → sumTo n (λ i. sumTo k (λ j. f i j)) ≡ sumTo k (λ j. sumTo n (λ i. f i j))
+unfolding sumTo
+sum-swap zero k f = sym (sum-zero k)
+sum-swap (suc n) k f = omega (arith, sum-swap n k f, sum-add k (λ j. sumTo n (λ i. f i j)) (λ j. f n j))
+
+-- a sum of numbers up to 1
+pub sum-ones : (n : ℕ) (f : ℕ → ℕ) → ((j : ℕ) → f j ≤ 1) → sumTo n f ≤ n
+unfolding sumTo
+sum-ones zero f h = omega arith
+sum-ones (suc n) f h = omega (arith, sum-ones n f h, h n)
+
+-- a term is at most the sum
+pub sum-term : (n : ℕ) (f : ℕ → ℕ) (k : ℕ) → k < n → f k ≤ sumTo n f
+unfolding sumTo
+sum-term zero f k h = absurd (not-suc-le-zero h)
+sum-term (suc n) f k h = ⊎-elim (λ q. let a : f k ≡ f n = ap f q in omega arith) (λ l. omega (arith, sum-term n f k l)) (eq-or-lt-of-le (le-of-suc-le-suc h))
+
+-- the first term apart
+pub sum-front : (n : ℕ) (f : ℕ → ℕ) → sumTo (suc n) f ≡ f 0 + sumTo n (λ j. f (suc j))
+unfolding sumTo
+sum-front zero f = omega arith
+sum-front (suc n) f = omega (arith, sum-front n f)
+
+-- the sum of a list that is made of a function
+pub sum-map : (h : ℕ → ℕ) (n : ℕ) (f : ℕ → ℕ) → sum (map h (tabulate n f)) ≡ sumTo n (λ k. h (f k))
+unfolding sum tabulate sumTo
+sum-map h zero f = refl
+sum-map h (suc n) f = ap (λ (x : ℕ). h (f 0) + x) (sum-map h n (λ k. f (suc k))) ∙ sym (sum-front n (λ k. h (f k)))

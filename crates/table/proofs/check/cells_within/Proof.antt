@@ -1,0 +1,56 @@
+use Prim.Native.Nat.{_≤_, _*_, _-_}
+use mathlib.Core.Path.{_≡_}
+use lib.ListN.{length}
+use borrow.Author.Needs.{needs}
+use Rattle.table.proofs.Checks.{Within, within-none, within-more, within-all, within-not, cells-fit}
+use Rattle.table.proofs.check.cells_within.Statement.{statement}
+use Rattle.table.proofs.check.cells_within.Tie as tie
+
+abbrev Inv-loop : tie.InvT-loop
+Inv-loop denominator cells bound i₀ i = (i ≤ length cells) × (bound ≡ 1000 * denominator) × Within denominator cells i
+
+abbrev μ-loop : tie.MeasureT-loop
+μ-loop denominator cells bound i₀ i = length cells - i
+
+mul-bound : tie.Need-mul-bound Inv-loop μ-loop
+mul-bound c = search (needs, cells-fit)
+
+loop-holds : tie.Need-loop-holds Inv-loop μ-loop
+loop-holds c = search (needs, within-none)
+
+mul-if1 : tie.Need-mul-if1 Inv-loop μ-loop
+mul-if1 c = search needs
+
+shared-slice-read-if1 : tie.Need-shared-slice-read-if1 Inv-loop μ-loop
+shared-slice-read-if1 c = search needs
+
+returns : tie.Need-returns Inv-loop μ-loop
+returns c = search (needs, within-not)
+
+add-i : tie.Need-add-i Inv-loop μ-loop
+add-i c = search needs
+
+loop-less : tie.Need-loop-less Inv-loop μ-loop
+loop-less c = search needs
+
+loop-again : tie.Need-loop-again Inv-loop μ-loop
+loop-again c = search (needs, within-more)
+
+returns-2 : tie.Need-returns-2 Inv-loop μ-loop
+returns-2 c = search (needs, within-all)
+
+pub cells-within-spec : {M : Type 1} → statement M
+cells-within-spec =
+    tie.close
+    (tie.spec
+    Inv-loop
+    μ-loop
+    mul-bound
+    loop-holds
+    mul-if1
+    shared-slice-read-if1
+    returns
+    add-i
+    loop-less
+    loop-again
+    returns-2)

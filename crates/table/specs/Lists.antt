@@ -1,0 +1,35 @@
+-- Lists and sums, as the definitions of every layer use them. Assumes nothing.
+use mathlib.Core.Bool.{Bool, true, false, _&&_}
+use mathlib.Core.List.{List, [], _∷_, _++_}
+use Prim.Native.Nat.{ℕ, zero, suc, _+_, min}
+
+-- f 0, .., f (n - 1)
+unfoldable pub tabulate {ℓ} : {A : Type ℓ} → ℕ → (ℕ → A) → List A
+tabulate zero f = []
+tabulate (suc n) f = f 0 ∷ tabulate n (λ i. f (suc i))
+
+-- the sum of a list
+unfoldable pub sum : List ℕ → ℕ
+sum [] = 0
+sum (x ∷ l) = x + sum l
+
+-- f 0 + .. + f (n - 1)
+unfoldable pub sumTo : ℕ → (ℕ → ℕ) → ℕ
+sumTo zero f = 0
+sumTo (suc n) f = sumTo n f + f n
+
+-- f 0 ++ .. ++ f (n - 1)
+unfoldable pub joinTo {ℓ} : {A : Type ℓ} → ℕ → (ℕ → List A) → List A
+joinTo zero f = []
+joinTo (suc n) f = joinTo n f ++ f n
+
+-- the smallest number of a list that is not empty
+unfoldable pub least : List ℕ → ℕ
+least [] = 0
+least (x ∷ []) = x
+least (x ∷ y ∷ l) = min x (least (y ∷ l))
+
+-- every element passes a test
+unfoldable pub all {ℓ} : {A : Type ℓ} → (A → Bool) → List A → Bool
+all f [] = true
+all f (x ∷ l) = f x && all f l

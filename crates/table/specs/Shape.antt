@@ -1,0 +1,27 @@
+-- What functions inside may rely on once a table is accepted. Assumes nothing.
+use mathlib.Core.Path.{_≡_}
+use mathlib.Core.List.{List}
+use Prim.Native.Nat.{ℕ, _+_, _*_, _<_, _≤_}
+use lib.ListN.{length, getD}
+
+-- r by c cells, within the bounds
+pub record Shape (r c : ℕ) (g : List ℕ) : Type 0 where
+  pub some-rows : 1 ≤ r
+  pub rows : r ≤ 12
+  pub some-columns : 1 ≤ c
+  pub columns : c ≤ 12
+  pub cells : length g ≡ r * c
+
+-- an accepted table
+pub record IsTable (r c d : ℕ) (g : List ℕ) : Type 0 where
+  pub shape : Shape r c g
+  pub some-denominator : 1 ≤ d
+  pub denominator : d ≤ 65535
+  pub within : (k : ℕ) → k < length g → getD g k 0 ≤ 1000 * d
+
+-- `count` places from `start` on, `step` apart, lie among n cells
+pub record Reach (start step count n : ℕ) : Type 0 where
+  pub step-small : step ≤ 12
+  pub count-small : count ≤ 144
+  pub room : n ≤ 144
+  pub inside : (k : ℕ) → k < count → start + k * step < n

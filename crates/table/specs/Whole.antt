@@ -1,0 +1,20 @@
+-- Whole part, remainder and the rounding of one entry (01, "From table to campaign" and "The rounding"). Assumes nothing.
+use mathlib.Core.Bool.{Bool, cond, not, _&&_, _||_}
+use Prim.Native.Nat.{ℕ, _+_, _/_, _%_}
+use lib.Dec.{eqb}
+
+-- the entry over w, rounded down
+abbrev pub down : ℕ → ℕ → ℕ
+down w e = e / w
+
+-- "An entry is whole if D divides it."
+unfoldable pub whole : ℕ → ℕ → Bool
+whole w e = eqb (e % w) 0
+
+-- the entry over w, rounded up
+abbrev pub up : ℕ → ℕ → ℕ
+up w e = cond (whole w e) (down w e) (down w e + 1)
+
+-- "Each of its entries, totals included, is the entry of the table divided by D, rounded down or up; a whole entry stays."
+unfoldable pub roundsTo : ℕ → ℕ → ℕ → Bool
+roundsTo w e n = eqb n (down w e) || (not (whole w e) && eqb n (down w e + 1))

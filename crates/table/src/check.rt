@@ -1,0 +1,59 @@
+// The check of a table's numbers: refusals 1 to 4.
+ghost use mathlib.Core.Path.{_≡_};
+ghost use Prim.Native.Nat.{ℕ, _+_, _*_, _<_, _≤_};
+ghost use Rattle.table.specs.Check.{upTo, checkOf, cellsWithin};
+use crate::Checked;
+use crate::Refusal;
+use crate::Table;
+
+// Whether a number is from 1 to a bound.
+pub fn up_to(bound: u32, n: u32) -> bool
+    ensures { λ r. ⌜ r ≡ upTo bound n ⌝ }
+{
+    if n < 1 {
+        return false;
+    }
+    n <= bound
+}
+
+// Whether each cell is at most 1000 times the denominator.
+pub fn cells_within(denominator: u32, cells: &[u32]) -> bool
+    requires { do ⌜ denominator ≤ (← ⟦Table::MAX_DENOMINATOR⟧) ⌝ }
+    ensures { λ r. ⌜ r ≡ cellsWithin denominator (now (cells .entry)) ⌝ }
+{
+    let bound = Table::MAX_EXPECTED * denominator;
+    let mut i = 0;
+    while i < cells.len() {
+        if bound < cells[i] {
+            return false;
+        }
+        i += 1;
+    }
+    true
+}
+
+// The table's sizes, or the lowest refusal that applies.
+pub fn check(rows: u32, columns: u32, denominator: u32, cells: &[u32]) -> Checked
+    ensures { λ r. ⌜ r ≡ checkOf rows columns denominator (now (cells .entry)) ⌝ }
+{
+    if !up_to(Table::MAX_ROWS, rows) {
+        return Checked::Refused(Refusal::Size);
+    }
+    if !up_to(Table::MAX_COLUMNS, columns) {
+        return Checked::Refused(Refusal::Size);
+    }
+    if !up_to(Table::MAX_DENOMINATOR, denominator) {
+        return Checked::Refused(Refusal::Denominator);
+    }
+    if cells.len() != (rows as usize) * (columns as usize) {
+        return Checked::Refused(Refusal::Cells);
+    }
+    if !cells_within(denominator, cells) {
+        return Checked::Refused(Refusal::Cell);
+    }
+    Checked::Accepted(Table {
+        rows: rows as usize,
+        columns: columns as usize,
+        denominator: denominator as u64,
+    })
+}

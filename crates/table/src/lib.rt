@@ -1,0 +1,89 @@
+// Tables of expected counts: their bounds, their refusals and their entries.
+ghost use mathlib.Core.Path.{_≡_};
+ghost use mathlib.Core.List.{List, map};
+ghost use Prim.Native.Nat.{ℕ};
+ghost use lib.ListN.{getD};
+ghost use Rattle.table.specs.Check.{numberOf, checkOf};
+ghost use Rattle.table.specs.Table.{maxRows, maxColumns, maxArrays, maxDenominator, maxExpected, entries, gridOf, gridOrder};
+
+pub mod check;
+pub mod entries;
+
+// The sizes of an accepted table.
+pub struct Table {
+    pub rows: usize,
+    pub columns: usize,
+    pub denominator: u64,
+}
+
+impl Table {
+    pub const MAX_ROWS: u32 = 12;
+
+    pub const MAX_COLUMNS: u32 = 12;
+
+    pub const MAX_ARRAYS: u32 = 170;
+
+    pub const MAX_DENOMINATOR: u32 = 65535;
+
+    // a cell is at most this many times the denominator
+    pub const MAX_EXPECTED: u32 = 1000;
+}
+
+// Why a call refuses its input, in the order of the refusals' numbers.
+pub enum Refusal {
+    Size,
+    Denominator,
+    Cells,
+    Cell,
+    Layout,
+    Content,
+    Buffer,
+    Number,
+    Record,
+    Taken,
+}
+
+// What the check of a table finds.
+pub enum Checked {
+    Accepted(Table),
+    Refused(Refusal),
+}
+
+// What a call answers that returns nothing but its success.
+pub enum Answer {
+    Done,
+    Refused(Refusal),
+}
+
+// The number of a refusal.
+pub fn number(r: Refusal) -> u32
+    ensures { λ n. ⌜ n ≡ numberOf r ⌝ }
+{
+    match r {
+        Refusal::Size => 1,
+        Refusal::Denominator => 2,
+        Refusal::Cells => 3,
+        Refusal::Cell => 4,
+        Refusal::Layout => 5,
+        Refusal::Content => 6,
+        Refusal::Buffer => 7,
+        Refusal::Number => 8,
+        Refusal::Record => 9,
+        Refusal::Taken => 10,
+    }
+}
+
+// The constants of the code are the bounds of the definitions.
+pub fn bounds()
+    ensures rows { λ _. do ⌜ (← ⟦Table::MAX_ROWS⟧ .entry) ≡ maxRows ⌝ }
+    ensures columns { λ _. do ⌜ (← ⟦Table::MAX_COLUMNS⟧ .entry) ≡ maxColumns ⌝ }
+    ensures arrays { λ _. do ⌜ (← ⟦Table::MAX_ARRAYS⟧ .entry) ≡ maxArrays ⌝ }
+    ensures denominator { λ _. do ⌜ (← ⟦Table::MAX_DENOMINATOR⟧ .entry) ≡ maxDenominator ⌝ }
+    ensures expected { λ _. do ⌜ (← ⟦Table::MAX_EXPECTED⟧ .entry) ≡ maxExpected ⌝ }
+{}
+
+// What holds of every accepted table: the grid has its entries, in their order, at the places of `gridOrder`.
+pub fn claims()
+    ensures order { λ _. ⌜ ((r c d : ℕ) (g : List ℕ) (t : Table) → Checked.Accepted t ≡ checkOf r c d g
+        → entries r c g ≡ map (λ k. getD (gridOf r c g) k 0) (gridOrder r c)) ⌝ }
+{}
