@@ -3,3 +3,8 @@ pub mod Sums
 pub mod Checks
 pub mod Totals
 pub mod Grids
+pub mod GridSums
+pub mod EntryTests
+pub mod EntryBounds
+pub mod Roundings
+pub mod Filling

@@ -1,11 +1,13 @@
 -- Laws on lists: a list made of a function, a test of every element. Assumes nothing.
-use mathlib.Core.Path.{_≡_, refl, sym, ap, _∙_}
-use mathlib.Core.Bool.{Bool, true, false, _&&_, false≢true}
+use mathlib.Core.Path.{_≡_, refl, sym, ap, subst, _∙_}
+use mathlib.Core.Bool.{Bool, true, false, _&&_, false≢true, and-assoc}
 use mathlib.Core.List.{List, [], _∷_, _++_, map}
 use Prim.Native.Nat.{ℕ, zero, suc, _+_, _<_, _≤_, suc-le-suc}
 use native.Mathlib.Nat.{not-suc-le-zero, le-of-suc-le-suc}
 use native.Mathlib.Omega.{arith}
-use lib.ListN.{length, getD}
+use borrow.Author.Count.{below-more}
+use lib.ListN.{length, getD, set}
+use lib.Seq.{getD-set-same, getD-set-other}
 use Rattle.table.specs.Lists.{tabulate, sum, all, least}
 
 pub and-left : (a b : Bool) → (a && b) ≡ true → a ≡ true
@@ -59,3 +61,31 @@ pub map-tabulate {ℓ κ} : {A : Type ℓ} {B : Type κ} (h : A → B) (n : ℕ)
 unfolding tabulate
 map-tabulate h zero f = refl
 map-tabulate h (suc n) f = ap (λ l. h (f 0) ∷ l) (map-tabulate h n (λ i. f (suc i)))
+
+module _ {ℓ} {A : Type ℓ} (f : A → Bool) where
+  pub all-append : (l k : List A) → all f (l ++ k) ≡ (all f l && all f k)
+  unfolding all
+  all-append [] k = refl
+  all-append (x ∷ l) k = ap (λ b. f x && b) (all-append l k) ∙ sym (and-assoc (f x) (all f l) (all f k))
+
+  pub all-tabulate : (n : ℕ) (h : ℕ → A) → ((i : ℕ) → i < n → f (h i) ≡ true) → all f (tabulate n h) ≡ true
+  unfolding all tabulate
+  all-tabulate zero h e = refl
+  all-tabulate (suc n) h e = rw (e 0 (omega arith)) (all-tabulate n (λ i. h (suc i)) (λ i p. e (suc i) (suc-le-suc p)))
+
+  pub tabulate-all : (n : ℕ) (h : ℕ → A) → all f (tabulate n h) ≡ true → (i : ℕ) → i < n → f (h i) ≡ true
+  unfolding all tabulate
+  tabulate-all zero h e i p = absurd (not-suc-le-zero p)
+  tabulate-all (suc n) h e zero p = and-left (f (h 0)) _ e
+  tabulate-all (suc n) h e (suc i) p = tabulate-all n (λ i. h (suc i)) (and-right (f (h 0)) _ e) i (le-of-suc-le-suc p)
+
+pub and-both : {a b : Bool} → a ≡ true → b ≡ true → (a && b) ≡ true
+and-both {a} {b} h k = rw h k
+
+-- a loop that stores at each place in turn: what holds of the places before holds of one more
+pub each-more : (P : ℕ → ℕ → Type 0) (l : List ℕ) (k v : ℕ) → k < length l → ((j : ℕ) → j < k → P j (getD l j 0)) → P k v
+    → (j : ℕ) → j < k + 1 → P j (getD (set l k v) j 0)
+each-more P l k v h f here =
+    below-more (λ (j : ℕ). P j (getD (set l k v) j 0)) k
+    (λ j p. subst (P j) (sym (getD-set-other l k j v 0 (λ e. omega arith))) (f j p))
+    (subst (P k) (sym (getD-set-same l k v 0 h)) here)

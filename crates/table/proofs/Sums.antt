@@ -2,8 +2,8 @@
 use mathlib.Core.Path.{_≡_, refl, sym, ap, _∙_}
 use mathlib.Core.Logic.{⊎-elim}
 use mathlib.Core.List.{map}
-use Prim.Native.Nat.{ℕ, zero, suc, _+_, _*_, _≤_, _<_}
-use native.Mathlib.Nat.{le-of-suc-le-suc, not-suc-le-zero, eq-or-lt-of-le, mul-zero, mul-add}
+use Prim.Native.Nat.{ℕ, zero, suc, _+_, _-_, _*_, _≤_, _<_}
+use native.Mathlib.Nat.{le-of-suc-le-suc, not-suc-le-zero, eq-or-lt-of-le, mul-zero, mul-add, suc-mul}
 use native.Mathlib.Omega.{arith}
 use Rattle.table.specs.Lists.{tabulate, sum, sumTo}
 
@@ -36,6 +36,11 @@ pub sum-add : (n : ℕ) (f g : ℕ → ℕ) → sumTo n (λ j. f j + g j) ≡ su
 unfolding sumTo
 sum-add zero f g = refl
 sum-add (suc n) f g = omega (arith, sum-add n f g)
+
+pub sum-sub : (n : ℕ) (f g : ℕ → ℕ) → ((j : ℕ) → j < n → f j ≤ g j) → sumTo n (λ j. g j - f j) + sumTo n f ≡ sumTo n g
+unfolding sumTo
+sum-sub zero f g h = refl
+sum-sub (suc n) f g h = omega (arith, sum-sub n f g (λ j l. h j (omega arith)), h n (omega arith))
 
 pub sum-mul : (n w : ℕ) (f : ℕ → ℕ) → sumTo n (λ j. w * f j) ≡ w * sumTo n f
 unfolding sumTo
@@ -70,3 +75,25 @@ pub sum-map : (h : ℕ → ℕ) (n : ℕ) (f : ℕ → ℕ) → sum (map h (tabu
 unfolding sum tabulate sumTo
 sum-map h zero f = refl
 sum-map h (suc n) f = ap (λ (x : ℕ). h (f 0) + x) (sum-map h n (λ k. f (suc k))) ∙ sym (sum-front n (λ k. h (f k)))
+
+-- nothing is added beyond m
+pub sum-beyond : (m n : ℕ) (f : ℕ → ℕ) → m ≤ n → ((j : ℕ) → m ≤ j → j < n → f j ≡ 0) → sumTo n f ≡ sumTo m f
+unfolding sumTo
+sum-beyond m zero f h z = let e : m ≡ 0 = omega arith in rw e refl
+sum-beyond m (suc n) f h z = ⊎-elim
+    (λ e. ap (λ (k : ℕ). sumTo k f) (sym e))
+    (λ l. omega (arith, sum-beyond m n f (le-of-suc-le-suc l) (λ j p q. z j p (omega arith)), z n (le-of-suc-le-suc l) (omega arith)))
+    (eq-or-lt-of-le h)
+
+pub sum-add-range : (n m : ℕ) (f : ℕ → ℕ) → sumTo (n + m) f ≡ sumTo n f + sumTo m (λ j. f (n + j))
+unfolding sumTo
+sum-add-range n zero f = let e : n + 0 ≡ n = omega arith in rw e (omega arith)
+sum-add-range n (suc m) f = let e : n + suc m ≡ suc (n + m) = omega arith in rw e (omega (arith, sum-add-range n m f))
+
+-- r rows of c
+pub sum-rows : (r c : ℕ) (f : ℕ → ℕ) → sumTo (r * c) f ≡ sumTo r (λ i. sumTo c (λ j. f (i * c + j)))
+unfolding sumTo
+sum-rows zero c f = let e : 0 * c ≡ 0 = omega arith in rw e refl
+sum-rows (suc r) c f =
+    let e : suc r * c ≡ r * c + c = suc-mul r c in
+    rw e (omega (arith, sum-add-range (r * c) c f, sum-rows r c f))

@@ -11,13 +11,12 @@ use lib.Dec.{lit<}
 use lib.ListN.{length, getD, set, replicate, length-set, length-replicate}
 use mir.Val.{Fits}
 use mir.Syntax.{w64}
-use lib.Seq.{ext-getD, getD-set-same, getD-set-other}
-use borrow.Author.Count.{below-more}
+use lib.Seq.{ext-getD}
 use borrow.Author.Tests.{lt-ltb, le-ltb}
 use Rattle.table.specs.Lists.{tabulate, sum, sumTo}
 use Rattle.table.specs.Table.{places, total, cellPlaces, rowPlaces, columnPlaces, allPlaces, gridPlaces, gridAt, gridOf}
 use Rattle.table.specs.Shape.{Shape, Reach}
-use Rattle.table.proofs.Lists.{length-tabulate, getD-tabulate}
+use Rattle.table.proofs.Lists.{length-tabulate, getD-tabulate, each-more}
 use Rattle.table.proofs.Sums.{sum-map}
 
 -- a total over places that a function lists
@@ -133,6 +132,10 @@ grid-at r c g p q hp hq =
     ∙ ap (λ (i : ℕ). gridAt r c g i ((p * 13 + q) % 13)) (digits-div p hq)
     ∙ ap (λ (j : ℕ). gridAt r c g p j) (digits-mod p hq)
 
+pub length-grid : (r c : ℕ) (g : List ℕ) → length (gridOf r c g) ≡ 169
+unfolding gridOf
+length-grid r c g = length-tabulate 169 _
+
 -- e holds the grid's numbers at its first k places
 pub record Listed (r c : ℕ) (g : List ℕ) (k : ℕ) (e : List ℕ) : Type 0 where
   pub len : length e ≡ 169
@@ -145,15 +148,13 @@ module _ {r c : ℕ} {g : List ℕ} {k : ℕ} {e : List ℕ} (l : Listed r c g k
   pub listed-more : (x : ℕ) → k < 169 → x ≡ gridAt r c g (k / 13) (k % 13) → Listed r c g (k + 1) (set e k x)
   listed-more x h is = record {
     len = length-set e k x ∙ l .len;
-    is = below-more (λ (i : ℕ). getD (set e k x) i 0 ≡ gridAt r c g (i / 13) (i % 13)) k
-        (λ i p. getD-set-other e k i x 0 (λ q. omega arith) ∙ l .is i p)
-        (getD-set-same e k x 0 (omega (arith, l .len)) ∙ is);
+    is = each-more (λ i v. v ≡ gridAt r c g (i / 13) (i % 13)) e k x (omega (arith, l .len)) (l .is) is;
   }
 
   pub listed-all : 169 ≤ k → e ≡ gridOf r c g
   unfolding gridOf
   listed-all h =
-      ext-getD 0 e _ (l .len ∙ sym (length-tabulate 169 _))
+      ext-getD 0 e _ (l .len ∙ sym (length-grid r c g))
       (λ i p. l .is i (omega (arith, l .len, p)) ∙ sym (getD-tabulate 169 _ i 0 (omega (arith, l .len, p))))
 
 -- s is the sum of k cells, and `at` the place after them

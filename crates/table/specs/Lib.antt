@@ -4,3 +4,4 @@ pub mod Whole
 pub mod Check
 pub mod Answer
 pub mod Shape
+pub mod Fill

@@ -11,9 +11,13 @@ down w e = e / w
 unfoldable pub whole : ℕ → ℕ → Bool
 whole w e = eqb (e % w) 0
 
+-- 1 where an entry is not whole, else 0: by how much it may be rounded up
+unfoldable pub gap : ℕ → ℕ → ℕ
+gap w e = cond (whole w e) 0 1
+
 -- the entry over w, rounded up
 abbrev pub up : ℕ → ℕ → ℕ
-up w e = cond (whole w e) (down w e) (down w e + 1)
+up w e = down w e + gap w e
 
 -- "Each of its entries, totals included, is the entry of the table divided by D, rounded down or up; a whole entry stays."
 unfoldable pub roundsTo : ℕ → ℕ → ℕ → Bool

@@ -1,0 +1,11 @@
+mod Indicators
+mod Writes
+mod DoubleSums
+mod Members
+mod SetLoops
+mod Searches
+mod Paths
+mod Cuts
+mod Fixes
+mod Fills
+mod Answers

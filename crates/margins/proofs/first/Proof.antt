@@ -1,0 +1,44 @@
+use Rattle.margins.proofs.first.Statement.{statement}
+use Rattle.margins.proofs.first.Tie as tie
+use borrow.Author.Needs.{needs}
+use native.Mathlib.Omega.{arith}
+use Rattle.margins.proofs.Answers.{places-start, feasible-start, first-matrix}
+
+copy-of-requires : tie.Need-copy-of-requires
+copy-of-requires c κs = search needs
+
+free-places-requires : tie.Need-free-places-requires
+free-places-requires c κs = search needs
+
+fill-requires : tie.Need-fill-requires
+fill-requires c κs =
+    let s = c .before .before .before .before .before .before .pre in
+    let u = c .before .before .before .free-places .ensures in
+    let l = c .before .before .before .before .before .copy-of .ensures in
+    (places-start (s .0) (s .1) u l, (l .len, feasible-start (s .0) (s .1) u l))
+
+fix-all-requires : tie.Need-fix-all-requires
+fix-all-requires c κs = search needs
+
+bytes-of-requires : tie.Need-bytes-of-requires
+bytes-of-requires c κs p q hp hq = omega (arith, c .before .before .fix-all .ensures .0 .single p q hp hq)
+
+returns : tie.Need-returns
+returns c =
+    let a = c .before .before .before .fix-all .ensures in
+    let f = c .before .before .before .before .before .before .before in
+    let s = f .before .before .before .before .before .before .before .pre in
+    let u = f .before .before .before .before .free-places .ensures in
+    let l = f .before .before .before .before .before .before .copy-of .ensures in
+    first-matrix (s .0) (s .1) u l (f .fill .ensures .1) (a .0) (a .1) (c .bytes-of .ensures)
+
+pub first-spec : {M : Type 1} → statement M
+first-spec =
+    tie.close
+    (tie.spec
+    copy-of-requires
+    free-places-requires
+    fill-requires
+    fix-all-requires
+    bytes-of-requires
+    returns)

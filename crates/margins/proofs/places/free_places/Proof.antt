@@ -1,0 +1,68 @@
+use Rattle.margins.proofs.places.free_places.Statement.{statement}
+use Rattle.margins.proofs.places.free_places.Tie as tie
+use borrow.Author.Needs.{needs}
+use native.Mathlib.Omega.{arith}
+use mathlib.Core.Path.{_≡_}
+use Prim.Native.Nat.{ℕ, _-_, _≤_, _<_}
+use lib.ListN.{length, length-set}
+use Rattle.margins.specs.Matrix.{at}
+use Rattle.margins.specs.Set.{on, has}
+use Rattle.margins.proofs.Writes.{write-next}
+
+abbrev Inv-loop : tie.InvT-loop
+Inv-loop cap up₀ p₀ up p = (p ≤ 13) × ((length up ≡ 13) × ((i : ℕ) → i < p → (q : ℕ) → q < 13 → has up i q ≡ at cap i q))
+
+abbrev μ-loop : tie.MeasureT-loop
+μ-loop cap up₀ p₀ up p = 13 - p
+
+loop-holds : tie.Need-loop-holds Inv-loop μ-loop
+loop-holds c = (omega arith, (c .pre .1, λ i h. absurd (omega arith)))
+
+mul-nonzero : tie.Need-mul-nonzero Inv-loop μ-loop
+mul-nonzero c = search needs
+
+nonzero-requires : tie.Need-nonzero-requires Inv-loop μ-loop
+nonzero-requires c κs = omega (arith, c .before .before .before .pre .0 .len)
+
+mul-up : tie.Need-mul-up Inv-loop μ-loop
+mul-up c = search needs
+
+element-write-up : tie.Need-element-write-up Inv-loop μ-loop
+element-write-up c = search needs
+
+add-p : tie.Need-add-p Inv-loop μ-loop
+add-p c = search needs
+
+loop-less : tie.Need-loop-less Inv-loop μ-loop
+loop-less c = search needs
+
+loop-again : tie.Need-loop-again Inv-loop μ-loop
+loop-again c =
+    let s = c .before .before .before .before in
+    let l = c .before .before .before .loop in (
+      search needs,
+      (
+        simp length-set (l .inv .1 .0),
+        write-next (λ i x. (q : ℕ) → q < 13 → on x q ≡ at (s .args .cap .now) i q) (l .up) (l .p) _ (omega arith) (l .inv .1 .1)
+            (λ q h. omega (arith, c .nonzero .ensures .is q h, s .pre .0 .bit (l .p) q (omega arith) h)),
+      ),
+    )
+
+returns : tie.Need-returns Inv-loop μ-loop
+returns c = let l = c .before .loop in record { len = l .inv .1 .0; is = λ p q hp hq. l .inv .1 .1 p (omega arith) q hq }
+
+pub free-places-spec : {M : Type 1} → statement M
+free-places-spec =
+    tie.close
+    (tie.spec
+    Inv-loop
+    μ-loop
+    loop-holds
+    mul-nonzero
+    nonzero-requires
+    mul-up
+    element-write-up
+    add-p
+    loop-less
+    loop-again
+    returns)

@@ -1,0 +1,85 @@
+use Rattle.margins.proofs.search.flip_path.Statement.{statement}
+use Rattle.margins.proofs.search.flip_path.Tie as tie
+use borrow.Author.Needs.{needs}
+use Rattle.margins.proofs.Paths.{AtCol, at-start, col-via, rows-below, col-free, raised, arrived, row-via, cols-below, row-free, lowered}
+use Prim.Native.Nat.{ℕ, _<_}
+use mathlib.Core.Path.{_≡_}
+use native.Mathlib.Omega.{arith}
+
+above : {n : ℕ} → (n ≡ 0 → ⊥) → 0 < n
+above h = omega arith
+
+abbrev Inv-loop : tie.InvT-loop
+Inv-loop up₀ down₀ rows cols start end last q₀ level₀ up down q level = AtCol up₀ down₀ rows cols start end last up down q level
+
+abbrev μ-loop : tie.MeasureT-loop
+μ-loop up₀ down₀ rows cols start end last q₀ level₀ up down q level = level
+
+loop-holds : tie.Need-loop-holds Inv-loop μ-loop
+loop-holds c = search (needs, at-start)
+
+mul-pick : tie.Need-mul-pick Inv-loop μ-loop
+mul-pick c = search needs
+
+element-copy-out-pick : tie.Need-element-copy-out-pick Inv-loop μ-loop
+element-copy-out-pick c = search needs
+
+pick-requires : tie.Need-pick-requires Inv-loop μ-loop
+pick-requires c κs = search (needs, col-via, rows-below)
+
+flip-requires : tie.Need-flip-requires Inv-loop μ-loop
+flip-requires c κs = search (needs, col-free)
+
+returns : tie.Need-returns Inv-loop μ-loop
+returns c = arrived (raised (c .before .before .before .before .before .before .before .loop .inv) (c .before .before .before .before .pick .ensures) (c .before .flip .ensures)) (c .if1 .taken)
+
+sub-level : tie.Need-sub-level Inv-loop μ-loop
+sub-level c = search needs
+
+mul-pick-2 : tie.Need-mul-pick-2 Inv-loop μ-loop
+mul-pick-2 c = search needs
+
+element-copy-out-pick-2 : tie.Need-element-copy-out-pick-2 Inv-loop μ-loop
+element-copy-out-pick-2 c = search needs
+
+pick-requires-2 : tie.Need-pick-requires-2 Inv-loop μ-loop
+pick-requires-2 c κs =
+    let a = raised (c .before .before .before .before .before .before .before .before .before .loop .inv) (c .before .before .before .before .before .before .pick .ensures) (c .before .before .before .flip .ensures) in
+    let pos : 0 < c .before .before .before .before .before .before .before .before .before .loop .level = above (c .before .before .if1 .left) in
+    (cols-below a pos, (a .below, row-via a pos))
+
+flip-requires-2 : tie.Need-flip-requires-2 Inv-loop μ-loop
+flip-requires-2 c κs =
+    let a = raised (c .before .before .before .before .before .before .before .before .before .before .before .before .loop .inv) (c .before .before .before .before .before .before .before .before .before .pick .ensures) (c .before .before .before .before .before .before .flip .ensures) in
+    let pos : 0 < c .before .before .before .before .before .before .before .before .before .before .before .before .loop .level = above (c .before .before .before .before .before .if1 .left) in
+    let d = c .before .before .pick2 .ensures in
+    ((a .way .down-len, a .way .up-len), (d .below, (a .below, (d .linked, row-free a pos d))))
+
+loop-less : tie.Need-loop-less Inv-loop μ-loop
+loop-less c = search needs
+
+loop-again : tie.Need-loop-again Inv-loop μ-loop
+loop-again c =
+    let a = raised (c .before .before .before .before .before .before .before .before .before .before .before .before .before .loop .inv) (c .before .before .before .before .before .before .before .before .before .before .pick .ensures) (c .before .before .before .before .before .before .before .flip .ensures) in
+    let pos : 0 < c .before .before .before .before .before .before .before .before .before .before .before .before .before .loop .level = above (c .before .before .before .before .before .before .if1 .left) in
+    lowered a pos (c .before .before .before .pick2 .ensures) (c .flip2 .ensures)
+
+pub flip-path-spec : {M : Type 1} → statement M
+flip-path-spec =
+    tie.close
+    (tie.spec
+    Inv-loop
+    μ-loop
+    loop-holds
+    mul-pick
+    element-copy-out-pick
+    pick-requires
+    flip-requires
+    returns
+    sub-level
+    mul-pick-2
+    element-copy-out-pick-2
+    pick-requires-2
+    flip-requires-2
+    loop-less
+    loop-again)

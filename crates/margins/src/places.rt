@@ -1,0 +1,61 @@
+// Between a grid of bytes, in row order, and sets of places (`up`, `down`: see search; `one`: see order).
+ghost use mathlib.Core.Path.{_≡_};
+ghost use Prim.Native.Nat.{ℕ, _+_, _*_, _≤_, _<_};
+ghost use lib.ListN.{length};
+ghost use Rattle.margins.specs.Set.{on, has};
+ghost use Rattle.margins.specs.Matrix.{Caps};
+ghost use Rattle.margins.specs.Grid.{FreeOf, BytesOf, CopyOf};
+use crate::sets::member;
+use crate::sets::nonzero;
+
+// For each row the columns where `cap` is 1.
+pub fn free_places(cap: &[u8; 169], up: &mut [u32; 13])
+    requires { ⌜ Caps (now cap) × (length (now up) ≡ 13) ⌝ }
+    ensures { λ _. ⌜ FreeOf (now (cap .entry)) (now (up .exit)) ⌝ }
+{
+    for p in 0..13 {
+        up[p] = nonzero(cap, p * 13);
+    }
+}
+
+// A copy. Its length is known, while that of what a reference shows is in no fact.
+pub fn copy_of(numbers: &[u8; 13]) -> [u8; 13]
+    ensures { λ r. ⌜ CopyOf (now (numbers .entry)) r ⌝ }
+{
+    let mut r = [0u8; 13];
+    for j in 0..13 {
+        r[j] = numbers[j];
+    }
+    r
+}
+
+// The bit of a place: 1 where it is free and 1, or fixed at 1.
+pub fn bit_of(down: u32, row: usize, one: u32, column: usize) -> u8
+    requires { ⌜ (row < 13) × ((column < 13) × (on down row + on one column ≤ 1)) ⌝ }
+    ensures { λ r. ⌜ r ≡ on down row + on one column ⌝ }
+{
+    (member(down, row) + member(one, column)) as u8
+}
+
+// Writes a row of the matrix after those before it.
+pub fn write_row(down: &[u32; 13], one: &[u32; 13], row: usize, b: &mut [u8; 169])
+    requires { ⌜ (row < 13) × (BytesOf (now down) (now one) (row * 13) (now b) × ((q : ℕ) → q < 13 → has (now down) q row + has (now one) row q ≤ 1)) ⌝ }
+    ensures { λ _. ⌜ BytesOf (now (down .entry)) (now (one .entry)) (row * 13 + 13) (now (b .exit)) ⌝ }
+{
+    let fixed = one[row];
+    for q in 0..13 {
+        b[row * 13 + q] = bit_of(down[q], row, fixed, q);
+    }
+}
+
+// The matrix, as bytes.
+pub fn bytes_of(down: &[u32; 13], one: &[u32; 13]) -> [u8; 169]
+    requires { ⌜ ((p q : ℕ) → p < 13 → q < 13 → has (now down) q p + has (now one) p q ≤ 1) ⌝ }
+    ensures { λ b. ⌜ BytesOf (now (down .entry)) (now (one .entry)) 169 b ⌝ }
+{
+    let mut b = [0u8; 169];
+    for p in 0..13 {
+        write_row(down, one, p, &mut b);
+    }
+    b
+}

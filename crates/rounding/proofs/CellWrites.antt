@@ -1,0 +1,66 @@
+-- What the loops that write cells keep. Assumes nothing.
+use mathlib.Core.Path.{_≡_, refl, sym, ap, ap₂, _∙_}
+use mathlib.Core.List.{List}
+use Prim.Native.Nat.{ℕ, zero, suc, _+_, _-_, _*_, _/_, _%_, _<_, _≤_}
+use native.Mathlib.Nat.{add-mul, one-mul, mul-le-mul-right}
+use native.Mathlib.Omega.{arith}
+use lib.Arith.{digits-div, digits-mod}
+use lib.ListN.{length, getD, set}
+use Rattle.table.specs.Fill.{Filled}
+use Rattle.table.proofs.Filling.{filled-none, filled-more, filled-to, filled-join}
+use Rattle.rounding.specs.Lines.{cellIn, RowReady, Ready}
+
+-- a row of which j cells are written
+pub record RowTo (n : List ℕ) (first at : ℕ) (old new : List ℕ) (j : ℕ) : Type 0 where
+  pub filled : Filled (λ k. getD n (first + k) 0) at old new j
+
+pub row-none : (n : List ℕ) (first at : ℕ) (old : List ℕ) → RowTo n first at old old 0
+row-none n first at old = record { filled = filled-none _ at old }
+
+pub row-small : {n : List ℕ} {first columns room at j : ℕ} → RowReady n first columns room at → j < columns → getD n (first + j) 0 ≤ 65535
+row-small {n} {first} {columns} {room} {at} {j} r h = r .small j h
+
+module _ {n : List ℕ} {first at : ℕ} {old new : List ℕ} {j : ℕ} (p : RowTo n first at old new j) where
+  module _ {columns : ℕ} (r : RowReady n first columns (length old) at) (h : j < columns) where
+    pub row-more : (x : ℕ) → x ≡ getD n (first + j) 0 → RowTo n first at old (set new (at + j) x) (j + 1)
+    row-more x e = record { filled = filled-more (p .filled) x e (omega (arith, r .fits)) }
+
+  pub row-all : {columns : ℕ} → j ≤ columns → columns ≤ j → Filled (λ k. getD n (first + k) 0) at old new columns
+  row-all a b = filled-to (p .filled) a b
+
+-- the first i rows
+pub record RowsTo (n : List ℕ) (columns at : ℕ) (old new : List ℕ) (next i : ℕ) : Type 0 where
+  pub place : next ≡ at + i * columns
+  pub filled : Filled (cellIn n columns) at old new (i * columns)
+
+pub rows-none : (n : List ℕ) (columns at : ℕ) (old : List ℕ) → RowsTo n columns at old old at 0
+rows-none n columns at old = record { place = omega arith; filled = let z : 0 * columns ≡ 0 = omega arith in rw z (filled-none _ at old) }
+
+module _ {n : List ℕ} {columns at : ℕ} {old new : List ℕ} {next i : ℕ} (p : RowsTo n columns at old new next i) where
+  module _ {rows : ℕ} (r : Ready n rows columns (length old) at) (h : i < rows) where
+    more : i * columns + columns ≤ rows * columns
+    more = omega (arith, add-mul i 1 columns, one-mul columns, mul-le-mul-right columns h)
+
+    pub rows-ready : RowReady n (i * 13) columns (length new) next
+    rows-ready = record {
+      inside = omega (arith, r .columns-small, r .rows-small);
+      fits = omega (arith, r .fits, more, p .place, p .filled .len);
+      small = λ j l. r .small i j h l;
+    }
+
+    pub rows-bound : next + columns ≤ length old
+    rows-bound = omega (arith, r .fits, more, p .place)
+
+    pub rows-more : (out : List ℕ) → Filled (λ j. getD n (i * 13 + j) 0) next new out columns → RowsTo n columns at old out (next + columns) (i + 1)
+    rows-more out f =
+        let one : (i + 1) * columns ≡ i * columns + columns = add-mul i 1 columns ∙ ap (λ (x : ℕ). i * columns + x) (one-mul columns) in
+        record {
+          place = omega (arith, p .place, one);
+          filled = rw one (filled-join (p .filled) (rw (p .place) at f) same);
+        }
+      where
+        same : (k : ℕ) → k < columns → getD n (i * 13 + k) 0 ≡ cellIn n columns (i * columns + k)
+        same k l = sym (ap₂ (λ (a b : ℕ). getD n (a * 13 + b) 0) (digits-div i l) (digits-mod i l))
+
+  pub rows-all : {rows : ℕ} → i ≤ rows → rows ≤ i → Filled (cellIn n columns) at old new (rows * columns)
+  rows-all {rows} a b = let e : i ≡ rows = omega arith in rw e at (p .filled)

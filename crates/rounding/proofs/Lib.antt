@@ -1,0 +1,11 @@
+pub mod Firsts
+pub mod Roundings
+pub mod Lines
+pub mod LineKinds
+pub mod Matrices
+pub mod FirstGrids
+pub mod GridLines
+pub mod GridRoundings
+pub mod PartLoops
+pub mod CellWrites
+pub mod Calls

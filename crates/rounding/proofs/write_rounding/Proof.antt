@@ -1,0 +1,39 @@
+use mathlib.Core.Path.{refl}
+use Rattle.rounding.proofs.Calls.{table-grid, cells-ready, array-first, rounding-written}
+use borrow.Author.Needs.{needs}
+use Rattle.rounding.proofs.write_rounding.Statement.{statement}
+use Rattle.rounding.proofs.write_rounding.Tie as tie
+
+entries-requires : tie.Need-entries-requires
+entries-requires c κs = search needs
+
+round-grid-requires : tie.Need-round-grid-requires
+round-grid-requires c κs =
+    let e = c .before .before in
+    let s = e .before .before .before in
+    (table-grid (s .pre .0) _ (e .entries .ensures), (s .pre .0 .some-denominator, refl))
+
+write-cells-requires : tie.Need-write-cells-requires
+write-cells-requires c κs =
+    let g = c .before .before in
+    let e = g .before .before .before in
+    let s = e .before .before .before in
+    cells-ready (s .pre .0) (e .entries .ensures) (g .round-grid .ensures) _ (s .pre .1)
+
+same-length : tie.Need-same-length
+same-length c = search needs
+
+returns : tie.Need-returns
+returns c =
+    let w = c .before .before in
+    let g = w .before .before .before in
+    let e = g .before .before .before in
+    let s = e .before .before .before in (
+      array-first (s .pre .0) (e .entries .ensures) (g .round-grid .ensures),
+      rounding-written (s .pre .0) (e .entries .ensures) (g .round-grid .ensures) (s .pre .1) (w .write-cells .ensures),
+    )
+
+pub write-rounding-spec : {M : Type 1} → statement M
+write-rounding-spec =
+    tie.close
+    (tie.spec entries-requires round-grid-requires write-cells-requires same-length returns)

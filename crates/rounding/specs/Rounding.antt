@@ -1,0 +1,33 @@
+-- Controlled roundings, and the first of them (01, "The rounding"). Assumes nothing.
+use mathlib.Core.Path.{_≡_}
+use mathlib.Core.Bool.{Bool, true, _&&_}
+use mathlib.Core.List.{List, [], map}
+use mathlib.Core.Option.{Option, some, none}
+use Prim.Native.Nat.{ℕ, _*_}
+use lib.ListN.{length}
+use lib.Dec.{eqb}
+use Rattle.table.specs.Lists.{all}
+use Rattle.table.specs.Table.{total, entryPlaces}
+use Rattle.table.specs.Whole.{down, up, roundsTo}
+use Rattle.rounding.specs.Order.{Before, Choice, firstOf}
+
+-- "A controlled rounding is an array of counts n, one a cell [..], with totals formed from it. Each of its entries, totals included,
+-- is the entry of the table divided by D, rounded down or up; a whole entry stays." The denominator is w.
+unfoldable pub isRounding : ℕ → ℕ → ℕ → List ℕ → List ℕ → Bool
+isRounding r c w g n = eqb (length n) (r * c) && all (λ s. roundsTo w (total g s) (total n s)) (entryPlaces r c)
+
+-- "the first array of this order is always taken"
+pub record IsFirst (r c w : ℕ) (g n : List ℕ) : Type 0 where
+  pub rounding : isRounding r c w g n ≡ true
+  pub first : (k : List ℕ) → isRounding r c w g k ≡ true → Before k n → ⊥
+
+-- the same array, searched for: a cell's count is the cell over w rounded down, or up unless it is whole
+abbrev pub choice : ℕ → ℕ → Choice
+choice w e = record { low = down w e; high = up w e }
+
+abbrev pub found : Option (List ℕ) → List ℕ
+found (some n) = n
+found none = []
+
+unfoldable pub firstRounding : ℕ → ℕ → ℕ → List ℕ → List ℕ
+firstRounding r c w g = found (firstOf (isRounding r c w g) (map (choice w) g))
