@@ -34,18 +34,18 @@ use Rattle.rounding.specs.Call.{roundAnswer}
 use Rattle.rounding.proofs.Roundings.{shape-of, rounding-length, rounding-grid}
 
 -- the cells of a grid are the list's
+pub cell-of-grid : {r c : ℕ} {n : List ℕ} → Shape r c n → (k : ℕ) → k < r * c → cellIn (gridOf r c n) c k ≡ getD n k 0
+cell-of-grid {r} {c} {n} s k h =
+    let q : k % c < c = mod-lt k (s .some-columns) in
+    let p : k / c < r = div-lt-iff-lt-mul (s .some-columns) .1 h in
+    grid-at r c n (k / c) (k % c) (omega (arith, s .rows)) (omega (arith, s .columns))
+    ∙ cell-at s (k / c) (k % c) p q
+    ∙ ap (λ (i : ℕ). getD n i 0) (div-add-mod' k c)
+
 pub cells-of-grid : {r c : ℕ} {n : List ℕ} → Shape r c n → tabulate (r * c) (cellIn (gridOf r c n) c) ≡ n
 cells-of-grid {r} {c} {n} s =
-    ext-getD 0 _ n (length-tabulate (r * c) _ ∙ sym (s .cells)) (λ k h. at k (omega (arith, length-tabulate (r * c) (cellIn (gridOf r c n) c), h)))
-  where
-    at : (k : ℕ) → k < r * c → getD (tabulate (r * c) (cellIn (gridOf r c n) c)) k 0 ≡ getD n k 0
-    at k h =
-        let q : k % c < c = mod-lt k (s .some-columns) in
-        let p : k / c < r = div-lt-iff-lt-mul (s .some-columns) .1 h in
-        getD-tabulate (r * c) _ k 0 h
-        ∙ grid-at r c n (k / c) (k % c) (omega (arith, s .rows)) (omega (arith, s .columns))
-        ∙ cell-at s (k / c) (k % c) p q
-        ∙ ap (λ (i : ℕ). getD n i 0) (div-add-mod' k c)
+    ext-getD 0 _ n (length-tabulate (r * c) _ ∙ sym (s .cells))
+    (λ k h. let l : k < r * c = omega (arith, length-tabulate (r * c) (cellIn (gridOf r c n) c)) in getD-tabulate (r * c) _ k 0 l ∙ cell-of-grid s k l)
 
 module _ {r c d : ℕ} {g : List ℕ} (t : IsTable r c d g) where
   pub table-grid : (e : List ℕ) → e ≡ gridOf r c g → IsGrid e

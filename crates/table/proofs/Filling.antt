@@ -68,3 +68,11 @@ filled-written {f} {old} {new} {n} p h =
         let e : length (tabulate n f) + (k - length (tabulate n f)) ≡ k = omega arith in
         p .beyond k (omega arith)
         ∙ sym (getD-second (tabulate n f) _ k m ∙ getD-drop (length (tabulate n f)) old _ 0 ∙ ap (λ (j : ℕ). getD old j 0) e)
+
+-- the same for a loop that fills a buffer from its start on
+module _ {f : ℕ → ℕ} {old new : List ℕ} {i : ℕ} (p : Filled f 0 old new i) where
+  pub front-more : (x : ℕ) {n : ℕ} → x ≡ f i → i < n → n ≤ length old → Filled f 0 old (set new i x) (i + 1)
+  front-more x e h m = let z : 0 + i ≡ i = omega arith in rw z at (filled-more p x e (omega arith))
+
+  pub front-all : {n : ℕ} → i ≤ n → n ≤ i → n ≤ length old → new ≡ written (tabulate n f) old
+  front-all a b h = filled-written (filled-to p a b) h

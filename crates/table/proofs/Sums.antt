@@ -71,7 +71,7 @@ sum-front zero f = omega arith
 sum-front (suc n) f = omega (arith, sum-front n f)
 
 -- the sum of a list that is made of a function
-pub sum-map : (h : ℕ → ℕ) (n : ℕ) (f : ℕ → ℕ) → sum (map h (tabulate n f)) ≡ sumTo n (λ k. h (f k))
+pub sum-map {ℓ} : {A : Type ℓ} (h : A → ℕ) (n : ℕ) (f : ℕ → A) → sum (map h (tabulate n f)) ≡ sumTo n (λ k. h (f k))
 unfolding sum tabulate sumTo
 sum-map h zero f = refl
 sum-map h (suc n) f = ap (λ (x : ℕ). h (f 0) + x) (sum-map h n (λ k. f (suc k))) ∙ sym (sum-front n (λ k. h (f k)))

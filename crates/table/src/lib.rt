@@ -4,6 +4,7 @@ ghost use mathlib.Core.List.{List, map};
 ghost use Prim.Native.Nat.{ℕ};
 ghost use lib.ListN.{getD};
 ghost use Rattle.table.specs.Check.{numberOf, checkOf};
+ghost use Rattle.table.specs.Answer.{answerNumber};
 ghost use Rattle.table.specs.Table.{maxRows, maxColumns, maxArrays, maxDenominator, maxExpected, entries, gridOf, gridOrder};
 
 pub mod check;
@@ -70,6 +71,16 @@ pub fn number(r: Refusal) -> u32
         Refusal::Number => 8,
         Refusal::Record => 9,
         Refusal::Taken => 10,
+    }
+}
+
+// The number of an answer: 0 for done.
+pub fn answer_number(a: Answer) -> u32
+    ensures { λ n. ⌜ n ≡ answerNumber a ⌝ }
+{
+    match a {
+        Answer::Done => 0,
+        Answer::Refused(x) => number(x),
     }
 }
 

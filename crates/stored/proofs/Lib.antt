@@ -1,0 +1,12 @@
+pub mod Numbers
+pub mod Every
+pub mod Rounding
+pub mod Layouts
+pub mod Entries
+pub mod Contents
+pub mod Belonging
+pub mod Opening
+pub mod Drawing
+pub mod Opens
+pub mod Viewing
+pub mod Examples

@@ -1,0 +1,33 @@
+use Rattle.stored.proofs.Numbers.{number-four}
+use borrow.Author.Needs.{needs}
+use Rattle.stored.proofs.bytes.four.Statement.{statement}
+use Rattle.stored.proofs.bytes.four.Tie as tie
+
+two-requires : tie.Need-two-requires
+two-requires c κs = search needs
+
+cast-low : tie.Need-cast-low
+cast-low c = search needs
+
+add-two : tie.Need-add-two
+add-two c = search needs
+
+two-requires-2 : tie.Need-two-requires-2
+two-requires-2 c κs = search needs
+
+cast-high : tie.Need-cast-high
+cast-high c = search needs
+
+mul-result : tie.Need-mul-result
+mul-result c = search needs
+
+add-result : tie.Need-add-result
+add-result c = search needs
+
+returns : tie.Need-returns
+returns c = search (needs, number-four)
+
+pub four-spec : {M : Type 1} → statement M
+four-spec =
+    tie.close
+    (tie.spec two-requires cast-low add-two two-requires-2 cast-high mul-result add-result returns)

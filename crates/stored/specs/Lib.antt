@@ -1,0 +1,6 @@
+pub mod Plan
+pub mod Form
+pub mod Open
+pub mod Parts
+pub mod View
+pub mod Examples

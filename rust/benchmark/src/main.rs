@@ -1,0 +1,13 @@
+//! Times of the calls on tables of twelve by twelve over the largest denominator.
+
+mod draw;
+mod open;
+
+use benchmark::inputs;
+
+fn main() {
+    let tables = inputs::hundred_tables();
+    let plans = inputs::stored_plans(&tables);
+    open::measure(&plans);
+    draw::measure(&plans);
+}

@@ -1,0 +1,75 @@
+use tables::Generator;
+
+/// A buffer of which a call gets the first `lent` items. The items after them are
+/// there to show that no call touches them.
+#[derive(Clone, Debug, PartialEq)]
+pub struct Buffer<T> {
+    lent: usize,
+    items: Vec<T>,
+}
+
+/// An item that can be filled with random bits.
+pub trait Item: Copy {
+    fn from_bits(bits: u64) -> Self;
+}
+
+impl Item for u8 {
+    fn from_bits(bits: u64) -> u8 {
+        bits as u8
+    }
+}
+
+impl Item for u16 {
+    fn from_bits(bits: u64) -> u16 {
+        bits as u16
+    }
+}
+
+impl Item for u32 {
+    fn from_bits(bits: u64) -> u32 {
+        bits as u32
+    }
+}
+
+/// How many items stand after the lent ones.
+const AFTER: usize = 5;
+
+impl<T: Item> Buffer<T> {
+    /// A buffer filled with a random pattern.
+    pub fn random(generator: &mut Generator, lent: usize) -> Buffer<T> {
+        let items = (0..lent + AFTER)
+            .map(|_| T::from_bits(generator.bits()))
+            .collect();
+        Buffer { lent, items }
+    }
+
+    /// A buffer that begins with these items and lends these alone.
+    pub fn holding(generator: &mut Generator, items: &[T]) -> Buffer<T> {
+        let mut buffer = Buffer::random(generator, items.len());
+        buffer.lent_mut()[..].copy_from_slice(items);
+        buffer
+    }
+
+    pub fn lent(&self) -> &[T] {
+        &self.items[..self.lent]
+    }
+
+    pub fn lent_mut(&mut self) -> &mut [T] {
+        &mut self.items[..self.lent]
+    }
+}
+
+/// Lengths around the one that is needed: just right, one short, none, and longer.
+pub fn lengths_around(generator: &mut Generator, needed: usize) -> [usize; 4] {
+    [
+        needed,
+        needed.saturating_sub(1),
+        0,
+        needed + generator.between(1, 20) as usize,
+    ]
+}
+
+/// A length that is enough: just right or longer.
+pub fn enough(generator: &mut Generator, needed: usize) -> usize {
+    needed + (generator.below(2) * generator.between(1, 20)) as usize
+}

@@ -1,0 +1,120 @@
+//! The draw call.
+
+use compare::buffer::{enough, lengths_around, Buffer};
+use compare::cases::{number_of, require, Call, Calls, Difference, Kind, Named};
+use compare::damage::good_and_damaged;
+use compare::plans::{random_opening_plan, stated_plan};
+use reference::{encode, Plan};
+use tables::{papers, Generator};
+
+pub const KINDS: &[Kind] = &[
+    Kind {
+        name: "draw-numbers",
+        cases: 400,
+        compare: numbers,
+    },
+    Kind {
+        name: "draw-refusals",
+        cases: 400,
+        compare: refusals,
+    },
+];
+
+pub const NAMED: &[Named] = &[Named {
+    name: "draw-listing",
+    compare: listing,
+}];
+
+#[derive(Clone, Debug, PartialEq)]
+struct Draw {
+    plan: Buffer<u8>,
+    number: u32,
+    counts: Buffer<u16>,
+}
+
+impl Call for Draw {
+    fn reference(&mut self) -> u32 {
+        number_of(reference::draw(
+            self.plan.lent(),
+            self.number,
+            self.counts.lent_mut(),
+        ))
+    }
+
+    fn library(&mut self) -> u32 {
+        library::draw(self.plan.lent(), self.number, self.counts.lent_mut())
+    }
+}
+
+/// Numbers at the ends of every array's range, some between, and some too large.
+fn notable_numbers(generator: &mut Generator, plan: &Plan) -> Vec<u32> {
+    let denominator = plan.table.denominator as u32;
+    let mut numbers = vec![denominator, denominator + 1, u32::MAX];
+    let mut before = 0;
+    for array in &plan.arrays {
+        let weight = array.weight as u32;
+        numbers.extend([before, before + weight - 1]);
+        before += weight;
+    }
+    for _ in 0..5 {
+        numbers.push(generator.below(u64::from(denominator)) as u32);
+    }
+    numbers
+}
+
+/// A random plan with all notable numbers.
+fn numbers(generator: &mut Generator, calls: &mut Calls) -> Result<(), Difference> {
+    let plan = random_opening_plan(generator, 12);
+    let bytes = encode(&plan);
+    for number in notable_numbers(generator, &plan) {
+        let room = enough(generator, plan.table.size());
+        calls.compare(&Draw {
+            plan: Buffer::holding(generator, &bytes),
+            number,
+            counts: Buffer::random(generator, room),
+        })?;
+    }
+    Ok(())
+}
+
+/// Good and damaged plans with good and bad numbers and buffers of all lengths.
+fn refusals(generator: &mut Generator, calls: &mut Calls) -> Result<(), Difference> {
+    let plan = random_opening_plan(generator, 4);
+    let denominator = plan.table.denominator;
+    for bytes in good_and_damaged(generator, &plan) {
+        for number in [
+            generator.below(denominator) as u32,
+            denominator as u32,
+            u32::MAX,
+        ] {
+            for room in lengths_around(generator, plan.table.size()) {
+                calls.compare(&Draw {
+                    plan: Buffer::holding(generator, &bytes),
+                    number,
+                    counts: Buffer::random(generator, room),
+                })?;
+            }
+        }
+    }
+    Ok(())
+}
+
+/// The listing's numbers with the arrays that they belong to.
+fn listing(calls: &mut Calls) -> Result<(), Difference> {
+    let generator = &mut Generator::new(0);
+    let plan = stated_plan(papers::listing());
+    for (number, array) in papers::LISTING_DRAWS.into_iter().enumerate() {
+        let call = Draw {
+            plan: Buffer::holding(generator, &encode(&plan)),
+            number: number as u32,
+            counts: Buffer::random(generator, 4),
+        };
+        let found = calls.compare_stated(&call, 0)?;
+        let counts = found.counts.lent().iter().map(|&count| u64::from(count));
+        let stated = &plan.arrays[array].counts;
+        require(counts.eq(stated.iter().copied()), || {
+            format!("{found:?}\nthe papers say {stated:?}\n")
+        })?;
+    }
+    Ok(())
+}

@@ -1,0 +1,8 @@
+//! What the comparisons of the calls share.
+
+pub mod buffer;
+pub mod cases;
+pub mod damage;
+pub mod lent_tables;
+pub mod plans;
+pub mod request;

@@ -1,0 +1,10 @@
+//! The calls of the static library, as Rust functions. A slice is lent with its
+//! length, and what a call returns is handed on as it is.
+
+mod draw;
+mod open;
+mod round;
+
+pub use draw::draw;
+pub use open::open;
+pub use round::round;

@@ -1,0 +1,19 @@
+//! Controlled selection, written from the papers: plain, slow and without proof.
+//! Every call leaves all lent buffers as they were when it refuses.
+
+mod campaign;
+mod flow;
+mod plan;
+mod refusal;
+mod rounding;
+mod stored;
+mod table;
+mod text;
+
+pub use campaign::{bytes_of_bits, campaign_draw, start};
+pub use plan::{plan, plan_of, Array, Plan};
+pub use refusal::Refusal;
+pub use rounding::{first_rounding, is_controlled_rounding, round, rounds_to};
+pub use stored::{draw, encode, open, stored_length};
+pub use table::{entries, Table};
+pub use text::{print_plan, LONGEST_INPUT};

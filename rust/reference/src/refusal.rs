@@ -1,0 +1,30 @@
+/// Why a call was turned back, by the number that it returns.
+#[derive(Clone, Copy, Debug, PartialEq, Eq)]
+pub enum Refusal {
+    /// Rows or columns out of bounds.
+    Size = 1,
+    /// The denominator out of bounds.
+    Denominator = 2,
+    /// Not as many cells as rows times columns.
+    CellCount = 3,
+    /// A cell above 1000 times the denominator.
+    LargeCell = 4,
+    /// A stored plan whose layout, length or head is wrong.
+    Layout = 5,
+    /// A stored plan that breaks another condition of opening.
+    Content = 6,
+    /// A lent buffer shorter than its result or record.
+    ShortBuffer = 7,
+    /// A draw number not below the denominator.
+    DrawNumber = 8,
+    /// A record that does not fit the plan.
+    Record = 9,
+    /// A draw number taken before.
+    Taken = 10,
+}
+
+impl Refusal {
+    pub fn number(self) -> u32 {
+        self as u32
+    }
+}

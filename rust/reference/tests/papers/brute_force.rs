@@ -1,0 +1,178 @@
+//! Roundings and plans against a search through all arrays.
+
+use crate::samples::{accepted, table};
+use reference::{entries, first_rounding, plan_of, Table};
+use tables::{papers, Generator};
+
+/// Each entry, in the words of the specification: over the weight, rounded down or
+/// up, and a whole entry stays.
+fn is_rounding(rows: usize, columns: usize, weight: u64, cells: &[u64], counts: &[u64]) -> bool {
+    let table_entries = entries(rows, columns, cells);
+    let array_entries = entries(rows, columns, counts);
+    table_entries
+        .iter()
+        .zip(array_entries)
+        .all(|(entry, count)| {
+            let whole = entry % weight == 0;
+            count == entry / weight || (!whole && count == entry / weight + 1)
+        })
+}
+
+/// The controlled roundings among all arrays with counts up to the largest cell's,
+/// rounded up, in the stated order.
+fn all_roundings(rows: usize, columns: usize, weight: u64, cells: &[u64]) -> Vec<Vec<u64>> {
+    let largest = cells.iter().max().expect("a table has cells");
+    let values = largest.div_ceil(weight) + 1;
+    let size = (rows * columns) as u32;
+    let array = |index: u64| -> Vec<u64> {
+        (0..size)
+            .rev()
+            .map(|place| index / values.pow(place) % values)
+            .collect()
+    };
+    (0..values.pow(size))
+        .map(array)
+        .filter(|counts| is_rounding(rows, columns, weight, cells, counts))
+        .collect()
+}
+
+/// The largest part of the weight that an array can take while every entry of the
+/// remaining table stays between its rounded values.
+fn largest_weight(entries: &[u64], weight: u64, counts: &[u64]) -> u64 {
+    let stays_between = |part: u64, entry: u64, count: u64| {
+        let left = weight - part;
+        let down = entry / weight;
+        let up = entry.div_ceil(weight);
+        down * left + part * count <= entry && entry <= up * left + part * count
+    };
+    let fits_all = |part: &u64| {
+        entries
+            .iter()
+            .zip(counts)
+            .all(|(&entry, &count)| stays_between(*part, entry, count))
+    };
+    (1..=weight).rev().find(fits_all).expect("1 fits")
+}
+
+/// The plan by brute force: weights and counts.
+fn plan_by_brute_force(table: &Table) -> Vec<(u64, Vec<u64>)> {
+    let (rows, columns) = (table.rows, table.columns);
+    let mut cells = table.cells.clone();
+    let mut left = table.denominator;
+    let mut arrays = Vec::new();
+    while left > 0 {
+        let counts = all_roundings(rows, columns, left, &cells).remove(0);
+        let array_entries = entries(rows, columns, &counts);
+        let weight = largest_weight(&entries(rows, columns, &cells), left, &array_entries);
+        for (cell, count) in cells.iter_mut().zip(&counts) {
+            *cell -= weight * count;
+        }
+        left -= weight;
+        arrays.push((weight, counts));
+    }
+    arrays
+}
+
+fn assert_same_as_brute_force(table: &Table) {
+    let planned: Vec<(u64, Vec<u64>)> = plan_of(table)
+        .arrays
+        .into_iter()
+        .map(|array| (array.weight, array.counts))
+        .collect();
+    assert_eq!(planned, plan_by_brute_force(table), "{table:?}");
+}
+
+/// Calls the check for every table of this size with cells up to the largest.
+fn for_all_tables(rows: u32, columns: u32, denominator: u32, largest: u32, check: fn(&Table)) {
+    let size = rows * columns;
+    let values = largest + 1;
+    for index in 0..values.pow(size) {
+        let cells: Vec<u32> = (0..size)
+            .map(|place| index / values.pow(place) % values)
+            .collect();
+        check(&table(rows, columns, denominator, &cells));
+    }
+}
+
+#[test]
+fn all_plans_of_one_cell() {
+    for denominator in 1..=12 {
+        for_all_tables(1, 1, denominator, 30, assert_same_as_brute_force);
+    }
+}
+
+#[test]
+fn all_plans_of_two_cells() {
+    for denominator in 1..=7 {
+        for_all_tables(1, 2, denominator, 15, assert_same_as_brute_force);
+        for_all_tables(2, 1, denominator, 15, assert_same_as_brute_force);
+    }
+}
+
+#[test]
+fn all_plans_of_three_cells_in_a_line() {
+    for denominator in 1..=5 {
+        for_all_tables(1, 3, denominator, 6, assert_same_as_brute_force);
+        for_all_tables(3, 1, denominator, 6, assert_same_as_brute_force);
+    }
+}
+
+#[test]
+fn all_plans_of_two_by_two() {
+    for denominator in 1..=5 {
+        for_all_tables(2, 2, denominator, 6, assert_same_as_brute_force);
+    }
+}
+
+#[test]
+fn all_plans_of_two_by_three_with_cells_up_to_two() {
+    for denominator in 2..=5 {
+        for_all_tables(2, 3, denominator, 2, assert_same_as_brute_force);
+        for_all_tables(3, 2, denominator, 2, assert_same_as_brute_force);
+    }
+}
+
+#[test]
+fn random_plans_of_up_to_three_by_three() {
+    let mut generator = Generator::new(31);
+    for _ in 0..800 {
+        let rows = generator.between(1, 3) as u32;
+        let columns = generator.between(1, 3) as u32;
+        let denominator = generator.between(1, 60) as u32;
+        let cells: Vec<u32> = (0..rows * columns)
+            .map(|_| generator.below(u64::from(denominator)) as u32)
+            .collect();
+        assert_same_as_brute_force(&table(rows, columns, denominator, &cells));
+    }
+}
+
+#[test]
+fn random_plans_of_up_to_three_by_three_with_cells_above_one() {
+    let mut generator = Generator::new(32);
+    for _ in 0..200 {
+        let rows = generator.between(1, 3) as u32;
+        let columns = generator.between(1, 3) as u32;
+        let denominator = generator.between(1, 9) as u32;
+        let cells: Vec<u32> = (0..rows * columns)
+            .map(|_| generator.between(0, 2 * u64::from(denominator) - 1) as u32)
+            .collect();
+        assert_same_as_brute_force(&table(rows, columns, denominator, &cells));
+    }
+}
+
+#[test]
+fn random_first_roundings_of_four_by_four() {
+    let mut generator = Generator::new(33);
+    for _ in 0..40 {
+        let weight = generator.between(2, 9);
+        let cells: Vec<u64> = (0..16).map(|_| generator.below(weight)).collect();
+        let first = all_roundings(4, 4, weight, &cells).remove(0);
+        assert_eq!(first_rounding(4, 4, weight, &cells), first, "{cells:?}");
+    }
+}
+
+#[test]
+fn problem_2_1_of_document_004_has_six_arrays() {
+    let problem = accepted(&papers::problem_2_1());
+    assert_eq!(all_roundings(3, 3, 10, &problem.cells).len(), 6);
+}

@@ -1,0 +1,30 @@
+//! Tables and plans that several tests use.
+
+use reference::{encode, plan_of, Plan, Table};
+use tables::papers::{self, Example};
+use tables::GivenTable;
+
+/// A table that must be accepted.
+pub fn table(rows: u32, columns: u32, denominator: u32, cells: &[u32]) -> Table {
+    Table::accept(rows, columns, denominator, cells).expect("the table is accepted")
+}
+
+/// The same for a table as it is given.
+pub fn accepted(given: &GivenTable) -> Table {
+    table(given.rows, given.columns, given.denominator, &given.cells)
+}
+
+/// A plan as the papers state it.
+pub fn stated_plan(example: Example) -> Plan {
+    Plan::new(accepted(&example.table), example.arrays)
+}
+
+/// The specification's listing.
+pub fn listed_plan() -> Plan {
+    stated_plan(papers::listing())
+}
+
+/// The stored plan of a table.
+pub fn stored_plan(table: &Table) -> Vec<u8> {
+    encode(&plan_of(table))
+}

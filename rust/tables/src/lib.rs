@@ -1,0 +1,45 @@
+//! Tables for tests, comparison and benchmark: those of the papers, and random ones
+//! made from a seed.
+
+mod numbers;
+pub mod papers;
+mod random;
+
+pub use numbers::Generator;
+pub use random::{evenly_spread, random_table, random_table_of};
+
+/// A table as a caller hands it over, whether it is accepted or not.
+#[derive(Clone, Debug, PartialEq, Eq)]
+pub struct GivenTable {
+    pub rows: u32,
+    pub columns: u32,
+    pub denominator: u32,
+    pub cells: Vec<u32>,
+}
+
+impl GivenTable {
+    /// A table by its rows of cells.
+    pub fn by_rows<const COLUMNS: usize>(denominator: u32, rows: &[[u32; COLUMNS]]) -> GivenTable {
+        GivenTable {
+            rows: rows.len() as u32,
+            columns: COLUMNS as u32,
+            denominator,
+            cells: rows.concat(),
+        }
+    }
+
+    /// A table whose cells are all the same.
+    pub fn uniform(rows: u32, columns: u32, denominator: u32, cell: u32) -> GivenTable {
+        GivenTable {
+            rows,
+            columns,
+            denominator,
+            cells: vec![cell; (rows * columns) as usize],
+        }
+    }
+}
+
+/// Every accepted number of rows with every accepted number of columns.
+pub fn all_sizes() -> impl Iterator<Item = (u32, u32)> {
+    (1..=12).flat_map(|rows| (1..=12).map(move |columns| (rows, columns)))
+}
