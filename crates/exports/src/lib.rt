@@ -4,6 +4,7 @@ ghost use lib.ListN.{length};
 ghost use Rattle.table.specs.Answer.{answerNumber, after, written};
 ghost use Rattle.rounding.specs.Rounding.{firstRounding};
 ghost use Rattle.rounding.specs.Call.{roundAnswer};
+ghost use Rattle.plan.specs.Call.{planBytes, planAnswer, plannedNumber, afterPlan};
 ghost use Rattle.stored.specs.Open.{openAnswer, openedNumber, drawAnswer, drawnArray};
 
 // Writes the first controlled rounding of a table: 0, or the refusal's number.
@@ -21,6 +22,23 @@ pub extern "C" fn lufodimi_round(
 {
     let answer = rounding::round(rows, columns, denominator, cells, counts);
     table::answer_number(answer)
+}
+
+// Writes the stored plan of a table: its length, which is 30 or more, or the refusal's number, which is below 30.
+#[no_mangle]
+pub extern "C" fn lufodimi_plan(
+    rows: u32,
+    columns: u32,
+    denominator: u32,
+    cells: &[u32],
+    buffer: &mut [u8],
+) -> u32
+    ensures number { λ n. ⌜ n ≡ plannedNumber (planAnswer rows columns denominator (now (cells .entry)) (length (now (buffer .entry)))) ⌝ }
+    ensures buffer { λ _. ⌜ now (buffer .exit) ≡ afterPlan (planAnswer rows columns denominator (now (cells .entry)) (length (now (buffer .entry))))
+        (written (planBytes rows columns denominator (now (cells .entry))) (now (buffer .entry))) (now (buffer .entry)) ⌝ }
+{
+    let planned = plan::plan(rows, columns, denominator, cells, buffer);
+    plan::planned_number(planned)
 }
 
 // Opens a stored plan: 0, or the refusal's number.

@@ -10,3 +10,9 @@ pub mod Drawing
 pub mod Opens
 pub mod Viewing
 pub mod Examples
+pub mod Joins
+pub mod Encodings
+pub mod Lengths
+pub mod Decodings
+pub mod Puts
+pub mod Writings

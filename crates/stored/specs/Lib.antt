@@ -4,3 +4,4 @@ pub mod Open
 pub mod Parts
 pub mod View
 pub mod Examples
+pub mod Write

@@ -11,6 +11,7 @@ mod held;
 pub mod layout;
 pub mod open;
 pub mod view;
+pub mod write;
 
 use table::Refusal;
 

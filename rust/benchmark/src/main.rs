@@ -2,11 +2,13 @@
 
 mod draw;
 mod open;
+mod plan;
 
 use benchmark::inputs;
 
 fn main() {
     let tables = inputs::hundred_tables();
+    plan::measure(&tables);
     let plans = inputs::stored_plans(&tables);
     open::measure(&plans);
     draw::measure(&plans);

@@ -5,6 +5,7 @@
 
 mod draw;
 mod open;
+mod plan;
 mod round;
 
 use compare::cases::{case_seed, Calls, Difference, Kind, Named};
@@ -15,6 +16,7 @@ use tables::Generator;
 /// The kinds of cases and the named cases of each call.
 const CALLS: &[(&[Kind], &[Named])] = &[
     (round::KINDS, round::NAMED),
+    (plan::KINDS, plan::NAMED),
     (open::KINDS, open::NAMED),
     (draw::KINDS, draw::NAMED),
 ];

@@ -3,8 +3,10 @@
 
 mod draw;
 mod open;
+mod plan;
 mod round;
 
 pub use draw::draw;
 pub use open::open;
+pub use plan::plan;
 pub use round::round;

@@ -1,0 +1,34 @@
+-- The tables of specs/Examples.antt hold, by computation. Assumes nothing.
+use mathlib.Core.Path.{_≡_, refl}
+use mathlib.Core.Bool.{true, false}
+use mathlib.Core.List.{List, [], _∷_, map, zipWith}
+use Prim.Native.Nat.{ℕ}
+use lib.ListN.{replicate}
+use lib.Dec.{eqb}
+use Rattle.table.specs.Lists.{tabulate, sum, joinTo, least, all}
+use Rattle.table.specs.Table.{total, entryPlaces, lines}
+use Rattle.table.specs.Whole.{whole, gap, roundsTo}
+use Rattle.table.specs.Check.{checkOf}
+use Rattle.rounding.specs.Order.{firstOf}
+use Rattle.rounding.specs.Rounding.{isRounding, firstRounding}
+use Rattle.stored.specs.Plan.{arrayFor}
+use Rattle.stored.specs.Form.{encode, head, entry, bytes, number, laidOut, decode}
+use Rattle.stored.specs.Open.{openAnswer, consistent}
+use Rattle.plan.specs.Rounds.{limitOf, weightOf, without, roundsFrom, planOf}
+use Rattle.plan.specs.Examples.{examples, planned, bounds, checked, drawsOfFirst, slips}
+
+pub examples-hold : map planned examples ≡ map (λ x. x .listing) examples
+unfolding planOf roundsFrom weightOf limitOf without tabulate sum least all total entryPlaces lines whole gap roundsTo firstOf isRounding firstRounding zipWith
+examples-hold = refl
+
+pub bounds-hold : map checked bounds ≡ map (λ x. x .number) bounds
+unfolding checkOf all
+bounds-hold = refl
+
+pub draws-hold : tabulate 10 (arrayFor (planOf 2 2 10 (3 ∷ 4 ∷ 5 ∷ 6 ∷ []) .arrays)) ≡ drawsOfFirst
+unfolding planOf roundsFrom weightOf limitOf without tabulate sum least all total entryPlaces lines whole gap roundsTo firstOf isRounding firstRounding zipWith arrayFor
+draws-hold = refl
+
+pub slips-shut : (map (λ x. x .computed) slips ≡ map (λ x. x .right) slips) × (map (λ x. eqb (x .right) (x .wrong)) slips ≡ replicate 4 false)
+unfolding openAnswer encode head entry bytes joinTo number laidOut decode consistent weightOf limitOf tabulate sum least all total entryPlaces lines whole roundsTo isRounding
+slips-shut = (refl, refl)

@@ -1,0 +1,115 @@
+-- One round on the grid is one round of the plan. Assumes nothing.
+use mathlib.Core.Path.{_≡_, refl, sym, ap, ap₂, _∙_}
+use mathlib.Core.Bool.{true, false}
+use mathlib.Core.List.{List, []}
+use Prim.Native.Nat.{ℕ, zero, suc, _+_, _-_, _*_, _/_, _%_, _≤_, _<_}
+use native.Mathlib.Nat.{zero-div, one-mul}
+use native.Mathlib.Omega.{arith}
+use lib.ListN.{length, getD}
+use lib.Seq.{ext-getD}
+use lib.Dec.{leb, eqb}
+use borrow.Author.Tests.{le-leb, leb-true, eq-eqb}
+use Rattle.table.specs.Table.{total, entryPlaces, cellPlaces, rowPlaces, columnPlaces, allPlaces, gridPlaces, gridAt, gridOf}
+use Rattle.table.specs.Whole.{roundsTo}
+use Rattle.table.specs.Shape.{Shape}
+use Rattle.table.proofs.Totals.{total-none, grid-at, length-grid}
+use Rattle.table.proofs.EntryTests.{grid-entries, grid-each}
+use Rattle.rounding.specs.Rounding.{isRounding, IsFirst, firstRounding}
+use Rattle.rounding.specs.Lines.{IsGrid, RoundedGrid}
+use Rattle.rounding.proofs.Roundings.{rounding-grid}
+use Rattle.plan.specs.Rounds.{limitOf, weightOf, without}
+use Rattle.plan.specs.Grids.{Rounded, Limits, Smallest, Bears, Lost, RoundDone}
+use Rattle.plan.proofs.Leasts.{member-all}
+use Rattle.plan.proofs.OneRound.{entry-rounds, attains, weight-most, weight-high, rest, rest-total}
+use Rattle.plan.proofs.GridMembers.{cell-in, row-in, column-in, grand-in}
+
+module _ (r c : ℕ) (g : List ℕ) (k : ℕ) (h : k < 169) where
+  pub entry-of : getD (gridOf r c g) k 0 ≡ gridAt r c g (k / 13) (k % 13)
+  entry-of =
+      let place : k / 13 * 13 + k % 13 ≡ k = omega arith in
+      rw place at (grid-at r c g (k / 13) (k % 13) (omega arith) (omega arith))
+
+module _ {w : ℕ} (wp : 0 < w) {e n : List ℕ} (o : RoundedGrid w e n) (r c : ℕ) (g : List ℕ) (s : Shape r c g) (is : e ≡ gridOf r c g) where
+  array : List ℕ
+  array = firstRounding r c w g
+
+  pub first : IsFirst r c w g (firstRounding r c w g)
+  first = o .first r c g s is
+
+  e-at : (k : ℕ) → k < 169 → getD e k 0 ≡ gridAt r c g (k / 13) (k % 13)
+  e-at k h = ap (λ (l : List ℕ). getD l k 0) is ∙ entry-of r c g k h
+
+  n-at : (k : ℕ) → k < 169 → getD n k 0 ≡ gridAt r c (firstRounding r c w g) (k / 13) (k % 13)
+  n-at k h = ap (λ (l : List ℕ). getD l k 0) (o .is r c g s is) ∙ entry-of r c (firstRounding r c w g) k h
+
+  pub entry-ok : (k : ℕ) → k < 169 → roundsTo w (getD e k 0) (getD n k 0) ≡ true
+  entry-ok k h = rw (e-at k h, n-at k h) (rounding-grid s w (firstRounding r c w g) (first .rounding) (k / 13) (k % 13) (omega arith) (omega arith))
+
+  -- the smallest limit of the grid is the smallest of the entries
+  limit-none : limitOf w (total g []) (total (firstRounding r c w g) []) ≡ w
+  unfolding limitOf
+  limit-none = rw (total-none g, total-none (firstRounding r c w g)) (rw (zero-div w) (omega arith))
+
+  low : (k : ℕ) → k < 169 → weightOf r c w g (firstRounding r c w g) ≤ limitOf w (getD e k 0) (getD n k 0)
+  unfolding gridAt
+  low k h = rw (e-at k h, n-at k h)
+      (grid-each r c (λ x. weightOf r c w g (firstRounding r c w g) ≤ limitOf w (total g x) (total (firstRounding r c w g) x))
+      (rw limit-none (weight-high s w wp _ (first .rounding)))
+      (λ i l. weight-most s w wp _ (first .rounding) (cell-in r c i l))
+      (λ i l. weight-most s w wp _ (first .rounding) (row-in r c i l))
+      (λ j l. weight-most s w wp _ (first .rounding) (column-in r c j l))
+      (weight-most s w wp _ (first .rounding) (grand-in r c))
+      (k / 13) (k % 13))
+
+  module _ {l : List ℕ} (lm : Limits w e n l) {x : ℕ} (sm : Smallest l x) where
+    test : (p q : ℕ) → p < 13 → q < 13 → leb x (limitOf w (total g (gridPlaces r c p q)) (total (firstRounding r c w g) (gridPlaces r c p q))) ≡ true
+    unfolding gridAt
+    test p q hp hq =
+        let k : p * 13 + q < 169 = omega arith in
+        let a = grid-at r c g p q hp hq in
+        let b = grid-at r c (firstRounding r c w g) p q hp hq in
+        let ea : getD e (p * 13 + q) 0 ≡ gridAt r c g p q = ap (λ (l : List ℕ). getD l (p * 13 + q) 0) is ∙ a in
+        let na : getD n (p * 13 + q) 0 ≡ gridAt r c (firstRounding r c w g) p q = ap (λ (l : List ℕ). getD l (p * 13 + q) 0) (o .is r c g s is) ∙ b in
+        le-leb x _ (rw (lm .is (p * 13 + q) k ∙ ap₂ (limitOf w) ea na) at (sm .low (p * 13 + q) k))
+
+    pub weight-is : x ≡ weightOf r c w g (firstRounding r c w g)
+    weight-is =
+        let t = attains s w wp _ (first .rounding) in
+        let up : x ≤ weightOf r c w g (firstRounding r c w g) = rw (t .is)
+        (leb-true x _ (member-all (λ y. leb x (limitOf w (total g y) (total (firstRounding r c w g) y))) (entryPlaces r c)
+        (grid-entries s (λ y. leb x (limitOf w (total g y) (total (firstRounding r c w g) y))) test) (t .member))) in
+        omega (arith, low (sm .place) (sm .inside), sm .is, lm .is (sm .place) (sm .inside))
+
+    taken : (k : ℕ) → k < 169 → gridAt r c (without x (firstRounding r c w g) g) (k / 13) (k % 13) + x * getD n k 0 ≡ getD e k 0
+    unfolding gridAt rest
+    taken k h = rw (e-at k h, n-at k h, weight-is) (rest-total s w wp _ (first .rounding) (gridPlaces r c (k / 13) (k % 13)))
+
+    pub entry-bears : (k : ℕ) → k < 169 → x * getD n k 0 ≤ getD e k 0
+    entry-bears k h = omega (arith, taken k h)
+
+    pub left-is : {e' : List ℕ} → Lost x e n e' → e' ≡ gridOf r c (without x (firstRounding r c w g) g)
+    left-is {e'} z =
+        ext-getD 0 e' _ (z .len ∙ sym (length-grid r c _))
+        (λ k l. let h : k < 169 = omega (arith, z .len) in
+        let there = entry-of r c (without x (firstRounding r c w g) g) k h in
+        omega (arith, z .is k h, taken k h))
+
+-- for the table that the grid belongs to
+module _ {w : ℕ} (wp : 0 < w) (ws : w ≤ 65535) {e n : List ℕ} (i : IsGrid e) (o : RoundedGrid w e n) where
+  pub rounded : Rounded w e n
+  rounded = record { some = wp; small = ws; entry-small = i .small; rounds = entry-ok wp o (i .rows) (i .columns) (i .cells) (i .shape) (i .is) }
+
+  module _ {l : List ℕ} (lm : Limits w e n l) {x : ℕ} (sm : Smallest l x) where
+    pub bears : length e ≡ 169 → Bears x e n
+    bears h = record { len = h; small = i .small; enough = entry-bears wp o (i .rows) (i .columns) (i .cells) (i .shape) (i .is) lm sm }
+
+    pub round-done : {e' : List ℕ} → Lost x e n e' → RoundDone w e n x e'
+    round-done z = record {
+      first = o .first;
+      array = o .is;
+      weight = λ r c g s is. weight-is wp o r c g s is lm sm;
+      left = λ r c g s is. left-is wp o r c g s is lm sm z;
+    }
+
+pub grid-length : {e : List ℕ} → IsGrid e → length e ≡ 169
+grid-length i = ap length (i .is) ∙ length-grid (i .rows) (i .columns) (i .cells)

@@ -1,0 +1,189 @@
+-- What the loop over the rounds keeps. Assumes nothing.
+use mathlib.Core.Path.{_≡_, refl, sym, ap, ap₂, subst, _∙_}
+use mathlib.Core.Bool.{true}
+use mathlib.Core.List.{List, [], _∷_, _++_, map}
+use Prim.Native.Nat.{ℕ, zero, suc, _+_, _-_, _*_, _/_, _%_, _≤_, _<_}
+use native.Mathlib.Decide.{decLt}
+use native.Mathlib.Nat.{mul-le-mul, suc-mul, div-le-of-le-mul, mul-comm}
+use native.Mathlib.Omega.{arith}
+use lib.Arith.{digits-lt}
+use lib.ListN.{length, getD, set, length-set, length-append, List·getD-append, List·getD-eq-default}
+use lib.Seq.{getD-append-seam}
+use mir.Val.{Fits}
+use mir.Syntax.{w64}
+use Rattle.table.specs.Lists.{tabulate, sum}
+use Rattle.table.specs.Table.{total, cellPlaces, rowPlaces, columnPlaces, lines, entryPlaces, gridPlaces, gridAt, gridOf}
+use Rattle.table.specs.Whole.{down, gap}
+use Rattle.table.specs.Shape.{Shape, IsTable}
+use Rattle.table.specs.Fill.{Filled}
+use Rattle.table.proofs.Lists.{length-tabulate, each-more}
+use Rattle.table.proofs.Totals.{grid-at, length-grid}
+use Rattle.table.proofs.GridSums.{cell-at}
+use Rattle.table.proofs.EntryBounds.{cell-at-most, grid-small}
+use Rattle.table.proofs.Roundings.{gap-le, rounds-high}
+use Rattle.rounding.specs.Rounding.{isRounding, IsFirst, firstRounding}
+use Rattle.rounding.specs.Lines.{cellIn, IsGrid, Ready}
+use Rattle.rounding.proofs.Roundings.{shape-of, rounding-length, rounding-grid}
+use Rattle.rounding.proofs.Calls.{cell-of-grid}
+use Rattle.stored.specs.Plan.{Weighted, arrayAt}
+use Rattle.plan.specs.Rounds.{weightOf, without, notWhole}
+use Rattle.plan.specs.Progress.{Progress}
+use Rattle.plan.specs.Grids.{RoundDone, Held, AllHeld}
+use Rattle.plan.proofs.Leasts.{sum-map-length}
+use Rattle.plan.proofs.Progressing.{progress-start, progress-step, array-rounds, weight, array, n, low-weight, high-weight}
+use Rattle.plan.proofs.GridRounds.{entry-of}
+
+pub held-start : {r c d : ℕ} {g : List ℕ} (e weights counts : List ℕ) → IsTable r c d g → length weights ≡ 170 → length counts ≡ 24480 → e ≡ gridOf r c g
+    → Held r c d g d 0 e weights counts
+held-start {r} {c} {d} {g} e weights counts t a b is = record {
+  rest = g;
+  done = [];
+  progress = progress-start t;
+  grid = is;
+  weights-len = a;
+  counts-len = b;
+  weight-at = λ i h. absurd (omega arith);
+  count-at = λ i j h l. absurd (omega arith);
+}
+
+-- how many entries there are
+entries-length : (r c : ℕ) → length (entryPlaces r c) ≡ r * c + (r + c) + 1
+unfolding entryPlaces lines
+entries-length r c =
+    length-append (lines r c) _
+    ∙ ap (λ (x : ℕ). x + 1)
+    (length-append (tabulate (r * c) cellPlaces) _
+    ∙ ap₂ _+_ (length-tabulate (r * c) cellPlaces)
+    (length-append (tabulate r (rowPlaces c)) _ ∙ ap₂ _+_ (length-tabulate r (rowPlaces c)) (length-tabulate c (columnPlaces r c))))
+
+pub few-not-whole : {r c : ℕ} → r ≤ 12 → c ≤ 12 → (w : ℕ) (g : List ℕ) → notWhole r c w g ≤ 169
+unfolding notWhole
+few-not-whole {r} {c} hr hc w g =
+    omega (arith, sum-map-length (λ s. gap w (total g s)) (entryPlaces r c) (λ s. gap-le w (total g s)), entries-length r c, mul-le-mul hr hc)
+
+-- a count of an array that rounds the table is small
+pub array-small : {r c d : ℕ} {g : List ℕ} (t : IsTable r c d g) (a : List ℕ) → isRounding r c d g a ≡ true → (i j : ℕ) → i < r → j < c → gridAt r c a i j ≤ 65535
+array-small {r} {c} {d} {g} t a h i j hi hj =
+    let high = rounds-high d (gridAt r c g i j) (gridAt r c a i j)
+    (rounding-grid (t .shape) d a h i j (omega (arith, t .shape .rows)) (omega (arith, t .shape .columns))) in
+    let cell : gridAt r c g i j ≡ getD g (i * c + j) 0 = cell-at (t .shape) i j hi hj in
+    let bound : gridAt r c g i j ≤ d * 1000 = omega (arith, cell-at-most t (i * c + j), mul-comm d 1000) in
+    omega (arith, gap-le d (gridAt r c g i j), div-le-of-le-mul d bound)
+
+module _ {r c d : ℕ} {g : List ℕ} (t : IsTable r c d g) {w k : ℕ} {e weights counts : List ℕ} (o : Held r c d g w k e weights counts) where
+  pub weight-small : w ≤ 65535
+  weight-small = omega (arith, o .progress .weights, t .denominator)
+
+  entry-small : (i : ℕ) → getD e i 0 ≤ 9437040000
+  unfolding gridAt
+  entry-small i = go (decLt i 169)
+    where
+      go : Dec (i < 169) → getD e i 0 ≤ 9437040000
+      go (yes h) =
+          let a : getD e i 0 ≡ total (o .rest) (gridPlaces r c (i / 13) (i % 13)) = ap (λ (l : List ℕ). getD l i 0) (o .grid) ∙ entry-of r c (o .rest) i h in
+          let b : getD (gridOf r c g) i 0 ≡ total g (gridPlaces r c (i / 13) (i % 13)) = entry-of r c g i h in
+          omega (arith, o .progress .sums (gridPlaces r c (i / 13) (i % 13)), grid-small t i)
+      go (no h) = omega (arith, List·getD-eq-default e 0 {n = i} (omega (arith, ap length (o .grid), length-grid r c (o .rest))))
+
+  pub held-grid : IsGrid e
+  held-grid = record { rows = r; columns = c; cells = o .rest; shape = o .progress .shape; is = o .grid; small = entry-small }
+
+  module _ (wp : 0 < w) where
+    pub held-room : k < 170
+    held-room = omega (arith, o .progress .few wp, few-not-whole (t .shape .rows) (t .shape .columns) d g)
+
+    small-size : r * c ≤ 144
+    small-size = mul-le-mul (t .shape .rows) (t .shape .columns)
+
+    ends : k * (r * c) + r * c ≤ 24480
+    ends = omega (arith, mul-le-mul held-room small-size, suc-mul k (r * c))
+
+    pub start-fits : Fits w64 (k * (r * c))
+    start-fits = record { fits = omega (arith, ends) }
+
+    module _ {a : List ℕ} {x : ℕ} {e' : List ℕ} (u : RoundDone w e a x e') where
+      first : IsFirst r c w (o .rest) (firstRounding r c w (o .rest))
+      first = u .first r c (o .rest) (o .progress .shape) (o .grid)
+
+      x-is : x ≡ weight (o .progress) wp first
+      unfolding weight
+      x-is = u .weight r c (o .rest) (o .progress .shape) (o .grid)
+
+      a-is : a ≡ gridOf r c (firstRounding r c w (o .rest))
+      a-is = u .array r c (o .rest) (o .progress .shape) (o .grid)
+
+      rounds-table : isRounding r c d g (firstRounding r c w (o .rest)) ≡ true
+      unfolding n
+      rounds-table = array-rounds (o .progress) wp first
+
+      array-shape : Shape r c (firstRounding r c w (o .rest))
+      array-shape = shape-of (t .shape) _ (rounding-length (t .shape) d _ rounds-table)
+
+      pub x-small : x ≤ 65535
+      x-small = omega (arith, x-is, high-weight (o .progress) wp first, weight-small)
+
+      pub x-most : x ≤ w
+      x-most = omega (arith, x-is, high-weight (o .progress) wp first)
+
+      pub x-some : 0 < x
+      x-some = omega (arith, x-is, low-weight (o .progress) wp first)
+
+      pub array-ready : Ready a r c (length counts) (k * (r * c))
+      array-ready = record {
+        some-columns = t .shape .some-columns;
+        columns-small = t .shape .columns;
+        rows-small = t .shape .rows;
+        fits = omega (arith, ends, o .counts-len);
+        small = λ i j hi hj.
+            let at : getD a (i * 13 + j) 0 ≡ gridAt r c (firstRounding r c w (o .rest)) i j =
+            ap (λ (l : List ℕ). getD l (i * 13 + j) 0) a-is ∙ grid-at r c _ i j (omega (arith, t .shape .rows)) (omega (arith, t .shape .columns)) in
+            omega (arith, array-small t _ rounds-table i j hi hj);
+      }
+
+      count-is : (j : ℕ) → j < r * c → cellIn a c j ≡ getD (firstRounding r c w (o .rest)) j 0
+      count-is j h = ap (λ (l : List ℕ). cellIn l c j) a-is ∙ cell-of-grid array-shape j h
+
+      -- one array more
+      module _ {v : ℕ} (ve : v ≡ x) {counts' : List ℕ} (f : Filled (cellIn a c) (k * (r * c)) counts counts' (r * c)) where
+        done' : List Weighted
+        done' = o .done ++ (array (o .progress) wp first ∷ [])
+
+        at-old : (i : ℕ) → i < k → arrayAt done' i ≡ arrayAt (o .done) i
+        unfolding done'
+        at-old i h = List·getD-append (o .done) _ _ i (omega (arith, o .progress .count))
+
+        at-new : arrayAt done' k ≡ array (o .progress) wp first
+        unfolding done'
+        at-new = ap (λ (j : ℕ). arrayAt done' j) (sym (o .progress .count)) ∙ getD-append-seam (o .done) _ [] _
+
+        weights' : (i : ℕ) → i < k + 1 → getD (set weights k v) i 0 ≡ arrayAt done' i .weight
+        unfolding array
+        weights' = each-more (λ i y. y ≡ arrayAt done' i .weight) weights k v (omega (arith, held-room, o .weights-len))
+            (λ i h. o .weight-at i h ∙ ap (λ (y : Weighted). y .weight) (sym (at-old i h)))
+            (ve ∙ x-is ∙ ap (λ (y : Weighted). y .weight) (sym at-new))
+
+        counts-at : (i j : ℕ) → i < k + 1 → j < r * c → getD counts' (i * (r * c) + j) 0 ≡ getD (arrayAt done' i .counts) j 0
+        unfolding array n
+        counts-at i j h l = go (decLt i k)
+          where
+            go : Dec (i < k) → getD counts' (i * (r * c) + j) 0 ≡ getD (arrayAt done' i .counts) j 0
+            go (yes p) =
+                f .before (i * (r * c) + j) (digits-lt p l)
+                ∙ o .count-at i j p l
+                ∙ ap (λ (y : Weighted). getD (y .counts) j 0) (sym (at-old i p))
+            go (no p) =
+                let q : i ≡ k = omega arith in
+                rw q (f .inside j l ∙ count-is j l ∙ ap (λ (y : Weighted). getD (y .counts) j 0) (sym at-new))
+
+        pub held-step : Held r c d g (w - x) (k + 1) e' (set weights k v) counts'
+        unfolding weight done'
+        held-step = record {
+          rest = without x (firstRounding r c w (o .rest)) (o .rest);
+          done = done';
+          progress = subst (λ (y : ℕ). Progress r c d g (w - y) (k + 1) (without y (firstRounding r c w (o .rest)) (o .rest)) (o .done ++ (array (o .progress) wp first ∷ []))) (sym x-is) (progress-step (o .progress) wp first);
+          grid = u .left r c (o .rest) (o .progress .shape) (o .grid);
+          weights-len = length-set weights k v ∙ o .weights-len;
+          counts-len = f .len ∙ o .counts-len;
+          weight-at = weights';
+          count-at = counts-at;
+        }

@@ -1,0 +1,13 @@
+pub mod Examples
+pub mod Entries
+pub mod Leasts
+pub mod Losses
+pub mod GridMembers
+pub mod OneRound
+pub mod Progressing
+pub mod LimitLoops
+pub mod GridRounds
+pub mod HeldRounds
+pub mod Planning
+pub mod PlanCalls
+pub mod ZeroPlans

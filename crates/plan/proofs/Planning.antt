@@ -1,0 +1,214 @@
+-- When no weight is left: the plan is what was gathered, and what it promises. Assumes nothing.
+use mathlib.Core.Path.{_≡_, refl, sym, ap, ap₂, subst, _∙_}
+use mathlib.Core.Bool.{Bool, true, false, _&&_}
+use mathlib.Core.List.{List, [], _∷_, _++_, map, List·Memᴰ as Member}
+use Prim.Native.Nat.{ℕ, zero, suc, _+_, _-_, _*_, _/_, _%_, _^_, _≤_, _<_}
+use native.Mathlib.Decide.{decLt}
+use native.Mathlib.Nat.{mul-le-mul, mul-zero, mod-lt, div-lt-iff-lt-mul, div-add-mod'}
+use native.Mathlib.Omega.{arith}
+use lib.ListN.{length, getD, List·getD-eq-default, List·getD-map}
+use lib.Dec.{leb, eqb}
+use borrow.Author.Tests.{le-leb, leb-true, eq-eqb}
+use Rattle.table.specs.Lists.{tabulate, sum, all}
+use Rattle.table.specs.Table.{total, cellPlaces, allPlaces, lines, entryPlaces, gridAt}
+use Rattle.table.specs.Whole.{down, up, roundsTo}
+use Rattle.table.specs.Shape.{Shape, IsTable}
+use Rattle.table.specs.Check.{cellsWithin}
+use Rattle.table.proofs.Lists.{and-left, and-right, and-both, all-intro, all-elim, all-append, all-tabulate}
+use Rattle.table.proofs.GridSums.{cell-at}
+use Rattle.rounding.specs.Rounding.{isRounding}
+use Rattle.rounding.proofs.Roundings.{shape-of, rounding-length}
+use Rattle.stored.specs.Plan.{Weighted, Plan, arrayAt}
+use Rattle.stored.specs.Form.{planLength, encode, decode, laidOut}
+use Rattle.stored.specs.Open.{held, weighted, consistent, opens}
+use Rattle.stored.specs.Write.{FitArray, WellShaped, heldArray, heldPlan, Bounded}
+use Rattle.stored.proofs.Decodings.{tabulate-getD, decode-encode, encode-laid-out}
+use Rattle.stored.proofs.Encodings.{encode-length}
+use Rattle.stored.proofs.Lengths.{plan-least, plan-most}
+use Rattle.plan.specs.Rounds.{roundsFrom, planOf, notWhole}
+use Rattle.plan.specs.Call.{planBytes}
+use Rattle.plan.specs.Progress.{Progress}
+use Rattle.plan.specs.Grids.{Held, AllHeld}
+use Rattle.plan.specs.Promises.{Promises}
+use Rattle.plan.proofs.GridMembers.{cell-in}
+use Rattle.plan.proofs.OneRound.{total-cell}
+use Rattle.plan.proofs.Progressing.{progress-end}
+use Rattle.plan.proofs.HeldRounds.{few-not-whole, array-small}
+
+-- a number of a list is at most its sum
+at-most-sum : (f : Weighted → ℕ) → f (record { weight = 0; counts = [] }) ≡ 0 → (l : List Weighted) (i : ℕ) → f (arrayAt l i) ≤ sum (map f l)
+unfolding sum
+at-most-sum f z [] i = omega arith
+at-most-sum f z (a ∷ l) zero = omega arith
+at-most-sum f z (a ∷ l) (suc i) = omega (arith, at-most-sum f z l i)
+
+sum-map-same : (f h : Weighted → ℕ) → ((a : Weighted) → f a ≡ h a) → (l : List Weighted) → sum (map f l) ≡ sum (map h l)
+unfolding sum
+sum-map-same f h e [] = refl
+sum-map-same f h e (a ∷ l) = omega (arith, e a, sum-map-same f h e l)
+
+sum-none : sum (map (λ (a : Weighted). a .weight) []) ≡ 0
+unfolding sum
+sum-none = refl
+
+-- a table with nothing in its cells has nothing anywhere
+pub total-zero : (g : List ℕ) → ((i : ℕ) → getD g i 0 ≡ 0) → (s : List ℕ) → total g s ≡ 0
+unfolding total sum
+total-zero g h [] = refl
+total-zero g h (i ∷ s) = omega (arith, h i, total-zero g h s)
+
+module _ {r c d : ℕ} {g : List ℕ} (t : IsTable r c d g) {k : ℕ} {weights counts : List ℕ} (a : AllHeld r c d g k weights counts) where
+  p : Progress r c d g 0 k (a .held .rest) (a .held .done)
+  p = a .held .progress
+
+  arrays : List Weighted
+  arrays = roundsFrom d r c d g
+
+  arrays-are : roundsFrom d r c d g ≡ a .held .done
+  arrays-are = progress-end p
+
+  count-is : length (roundsFrom d r c d g) ≡ k
+  count-is = ap length arrays-are ∙ p .count
+
+  -- what is left is nothing
+  left-zero : (i : ℕ) → getD (a .held .rest) i 0 ≡ 0
+  left-zero i = go (decLt i (r * c))
+    where
+      go : Dec (i < r * c) → getD (a .held .rest) i 0 ≡ 0
+      go (yes h) = omega (arith, p .high (cellPlaces i) (cell-in r c i h), mul-zero (up d (total g (cellPlaces i))), total-cell (a .held .rest) i)
+      go (no h) = List·getD-eq-default (a .held .rest) 0 {n = i} (omega (arith, p .shape .cells))
+
+  all-sums : (s : List ℕ) → sum (map (λ x. x .weight * total (x .counts) s) (roundsFrom d r c d g)) ≡ total g s
+  all-sums s = rw arrays-are (omega (arith, p .sums s, total-zero (a .held .rest) left-zero s))
+
+  all-weights : sum (map (λ x. x .weight) (roundsFrom d r c d g)) ≡ d
+  all-weights = rw arrays-are (omega (arith, p .weights))
+
+  all-positive : all (λ x. leb 1 (x .weight)) (roundsFrom d r c d g) ≡ true
+  all-positive = rw arrays-are (p .positive)
+
+  all-rounded : all (λ x. isRounding r c d g (x .counts)) (roundsFrom d r c d g) ≡ true
+  all-rounded = rw arrays-are (p .rounded)
+
+  few-arrays : k ≤ 170
+  few-arrays = omega (arith, p .most, few-not-whole (t .shape .rows) (t .shape .columns) d g)
+
+  some-arrays : 1 ≤ k
+  some-arrays = go (a .held .done) refl
+    where
+      go : (l : List Weighted) → a .held .done ≡ l → 1 ≤ k
+      go [] e = absurd (omega (arith, p .weights, ap (λ (x : List Weighted). sum (map (λ y. y .weight) x)) e ∙ sum-none, t .some-denominator))
+      go (x ∷ l) e = omega (arith, p .count, ap length e)
+
+  pub sizes : Bounded r c k × (1 ≤ k)
+  sizes = (record { rows = t .shape .rows; columns = t .shape .columns; arrays = few-arrays }, some-arrays)
+
+  -- the array at a place
+  module _ (i : ℕ) (h : i < k) where
+    inside : i < length (roundsFrom d r c d g)
+    inside = omega (arith, count-is)
+
+    rounds-at : isRounding r c d g (arrayAt (roundsFrom d r c d g) i .counts) ≡ true
+    rounds-at = all-elim (λ x. isRounding r c d g (x .counts)) (roundsFrom d r c d g) _ all-rounded i inside
+
+    counts-length : length (arrayAt (roundsFrom d r c d g) i .counts) ≡ r * c
+    counts-length = rounding-length (t .shape) d _ rounds-at
+
+    count-small : (j : ℕ) → j < r * c → getD (arrayAt (roundsFrom d r c d g) i .counts) j 0 < 2 ^ 16
+    count-small j l =
+        let q : j % c < c = mod-lt j (t .shape .some-columns) in
+        let v : j / c < r = div-lt-iff-lt-mul (t .shape .some-columns) .1 l in
+        let at : gridAt r c (arrayAt (roundsFrom d r c d g) i .counts) (j / c) (j % c) ≡ getD (arrayAt (roundsFrom d r c d g) i .counts) (j / c * c + j % c) 0
+        = cell-at (shape-of (t .shape) _ counts-length) (j / c) (j % c) v q in
+        let place : getD (arrayAt (roundsFrom d r c d g) i .counts) (j / c * c + j % c) 0 ≡ getD (arrayAt (roundsFrom d r c d g) i .counts) j 0
+        = ap (λ (x : ℕ). getD (arrayAt (roundsFrom d r c d g) i .counts) x 0) (div-add-mod' j c) in
+        omega (arith, array-small t _ rounds-at (j / c) (j % c) v q)
+
+    weight-small : arrayAt (roundsFrom d r c d g) i .weight ≤ d
+    weight-small = omega (arith, at-most-sum (λ x. x .weight) refl (roundsFrom d r c d g) i, all-weights)
+
+    held-is : heldArray (r * c) weights counts i ≡ arrayAt (roundsFrom d r c d g) i
+    held-is =
+        let same : arrayAt (roundsFrom d r c d g) i ≡ arrayAt (a .held .done) i = ap (λ (l : List Weighted). arrayAt l i) arrays-are in
+        let w : getD weights i 0 ≡ arrayAt (roundsFrom d r c d g) i .weight = a .held .weight-at i h ∙ ap (λ (x : Weighted). x .weight) (sym same) in
+        let n : tabulate (r * c) (λ j. getD counts (i * (r * c) + j) 0) ≡ arrayAt (roundsFrom d r c d g) i .counts
+        = tabulate-getD (arrayAt (roundsFrom d r c d g) i .counts) (r * c) 0 _ counts-length
+        (λ j l. a .held .count-at i j h l ∙ ap (λ (x : Weighted). getD (x .counts) j 0) (sym same)) in
+        let make : ℕ → List ℕ → Weighted = λ x l. record { weight = x; counts = l } in
+        ap₂ make w n
+
+  pub plan-held : heldPlan r c d g k weights counts ≡ planOf r c d g
+  unfolding planOf
+  plan-held =
+      let e : tabulate k (heldArray (r * c) weights counts) ≡ roundsFrom d r c d g = tabulate-getD (roundsFrom d r c d g) k _ _ count-is held-is in
+      rw e refl
+
+  shaped : WellShaped (planOf r c d g)
+  unfolding planOf
+  shaped = record {
+    shape = t .shape;
+    some-denominator = t .some-denominator;
+    denominator = t .denominator;
+    cell = λ i h. omega (arith, t .within i (omega (arith, t .shape .cells)), t .denominator);
+    some-arrays = omega (arith, count-is, some-arrays);
+    arrays = omega (arith, count-is, few-arrays);
+    array = λ i h.
+        let l : i < k = omega (arith, count-is) in
+        record { weight = omega (arith, weight-small i l, t .denominator); counts = counts-length i l; count = count-small i l };
+  }
+
+  -- the conditions of opening
+  lines-held : (x : Weighted) → isRounding r c d g (x .counts) ≡ true → held (planOf r c d g) x ≡ true
+  unfolding planOf isRounding entryPlaces
+  lines-held x h =
+      let e = and-right (eqb (length (x .counts)) (r * c)) _ h in
+      and-left (all (λ s. roundsTo d (total g s) (total (x .counts) s)) (lines r c)) _
+      (sym (all-append (λ s. roundsTo d (total g s) (total (x .counts) s)) (lines r c) (allPlaces r c ∷ [])) ∙ e)
+
+  held-all : all (held (planOf r c d g)) (roundsFrom d r c d g) ≡ true
+  held-all = all-intro (held (planOf r c d g)) (roundsFrom d r c d g) (record { weight = 0; counts = [] })
+      (λ i h. lines-held (arrayAt (roundsFrom d r c d g) i) (rounds-at i (omega (arith, count-is))))
+
+  cells-met : (i : ℕ) → weighted (roundsFrom d r c d g) i ≡ getD g i 0
+  cells-met i =
+      sum-map-same _ _ (λ x. ap (λ (n : ℕ). x .weight * n) (sym (total-cell (x .counts) i))) (roundsFrom d r c d g)
+      ∙ all-sums (cellPlaces i)
+      ∙ total-cell g i
+
+  is-consistent : consistent (planOf r c d g) ≡ true
+  unfolding consistent planOf
+  is-consistent =
+      and-both
+      (and-both
+      (and-both
+      (and-both (all-intro (λ x. leb x (1000 * d)) g 0 (λ i h. le-leb _ _ (t .within i h))) all-positive)
+      (eq-eqb _ _ all-weights))
+      held-all)
+      (all-tabulate (λ i. eqb (weighted (roundsFrom d r c d g) i) (getD g i 0)) (r * c) (λ i. i) (λ i h. eq-eqb _ _ (cells-met i)))
+
+  bytes-decode : decode (planBytes r c d g) ≡ planOf r c d g
+  unfolding planBytes
+  bytes-decode = decode-encode shaped
+
+  bytes-open : opens (planBytes r c d g) ≡ true
+  unfolding opens planBytes
+  bytes-open = and-both (encode-laid-out shaped) (ap consistent bytes-decode ∙ is-consistent)
+
+  pub bytes-length : length (planBytes r c d g) ≡ planLength r c k
+  unfolding planBytes planOf
+  bytes-length = encode-length (planOf r c d g) ∙ ap (planLength r c) count-is
+
+  pub promises : Promises r c d g (roundsFrom d r c d g)
+  promises = record {
+    positive = all-positive;
+    weights = all-weights;
+    sums = all-sums;
+    rounded = all-rounded;
+    few = omega (arith, count-is, p .most);
+    most = omega (arith, count-is, few-arrays);
+    len = bytes-length ∙ ap (planLength r c) (sym count-is);
+    len-low = rw bytes-length (plan-least (t .shape .some-rows) (t .shape .some-columns) some-arrays);
+    len-high = rw bytes-length (plan-most (sizes .0));
+    opening = bytes-open;
+    decodes = bytes-decode;
+  }

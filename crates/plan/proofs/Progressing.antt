@@ -1,0 +1,130 @@
+-- How planning proceeds: its start, one more round, its end. Assumes nothing.
+use mathlib.Core.Path.{_≡_, refl, sym, ap, _∙_}
+use mathlib.Core.Bool.{Bool, true, false, _&&_}
+use mathlib.Core.List.{List, [], _∷_, _++_, map, append-nil, append-assoc, map-append, List·Memᴰ as Member}
+use Prim.Native.Nat.{ℕ, zero, suc, _+_, _-_, _*_, _/_, _%_, _≤_, _<_}
+use native.Mathlib.Nat.{div-add-mod', mod-lt, add-mul, one-mul}
+use native.Mathlib.Omega.{arith}
+use lib.ListN.{length, length-append}
+use lib.Dec.{leb}
+use borrow.Author.Tests.{le-leb}
+use Rattle.table.specs.Lists.{sum, all}
+use Rattle.table.specs.Table.{total, entryPlaces}
+use Rattle.table.specs.Whole.{down, up, gap, roundsTo}
+use Rattle.table.specs.Shape.{Shape, IsTable}
+use Rattle.table.proofs.Lists.{all-append, and-both}
+use Rattle.table.proofs.Roundings.{gap-le, gap-whole, gap-part, rounds}
+use Rattle.rounding.specs.Rounding.{isRounding, IsFirst, firstRounding}
+use Rattle.rounding.proofs.Roundings.{rounding-length}
+use Rattle.stored.specs.Plan.{Weighted}
+use Rattle.plan.specs.Rounds.{weightOf, without, roundsFrom, notWhole}
+use Rattle.plan.specs.Progress.{Progress}
+use Rattle.plan.proofs.Leasts.{all-member, sum-append}
+use Rattle.plan.proofs.OneRound.{weight-low, weight-high, rest, rest-shape, rest-total, rest-low, rest-high, array-low, array-high, fewer}
+
+-- an entry lies between its roundings
+down-le : (d e : ℕ) → 0 < d → down d e * d ≤ e
+down-le d e p = omega (arith, div-add-mod' e d)
+
+up-ge : (d e : ℕ) → 0 < d → e ≤ up d e * d
+up-ge d e p = go (native.Mathlib.Decide.ℕ-discrete (e % d) 0)
+  where
+    go : Dec (e % d ≡ 0) → e ≤ up d e * d
+    go (yes z) = omega (arith, div-add-mod' e d, add-mul (e / d) (gap d e) d)
+    go (no z) =
+        let one : gap d e * d ≡ d = ap (λ (x : ℕ). x * d) (gap-part d e z) ∙ one-mul d in
+        omega (arith, div-add-mod' e d, mod-lt e p, add-mul (e / d) (gap d e) d)
+
+pub progress-start : {r c d : ℕ} {g : List ℕ} → IsTable r c d g → Progress r c d g d 0 g []
+unfolding sum all
+progress-start {r} {c} {d} {g} t = record {
+  shape = t .shape;
+  count = refl;
+  fuel = d;
+  enough = omega arith;
+  rounds = refl;
+  weights = omega arith;
+  positive = refl;
+  rounded = refl;
+  sums = λ s. omega arith;
+  low = λ s m. down-le d (total g s) (t .some-denominator);
+  high = λ s m. up-ge d (total g s) (t .some-denominator);
+  few = λ h. omega arith;
+  most = omega arith;
+}
+
+-- one more array at the end of a list
+module _ (a : Weighted) (l : List Weighted) where
+  sum-one-more : (f : Weighted → ℕ) → sum (map f (l ++ (a ∷ []))) ≡ sum (map f l) + f a
+  unfolding sum
+  sum-one-more f = ap sum (map-append f l (a ∷ [])) ∙ sum-append (map f l) (f a ∷ []) ∙ omega arith
+
+  all-one-more : (f : Weighted → Bool) → all f l ≡ true → f a ≡ true → all f (l ++ (a ∷ [])) ≡ true
+  unfolding all
+  all-one-more f h k = all-append f l (a ∷ []) ∙ and-both h (and-both k refl)
+
+module _ {r c d : ℕ} {g : List ℕ} {w k : ℕ} {left : List ℕ} {done : List Weighted} (p : Progress r c d g w k left done)
+    (wp : 0 < w) (f : IsFirst r c w left (firstRounding r c w left)) where
+  unfoldable pub n : List ℕ
+  n = firstRounding r c w left
+
+  unfoldable pub weight : ℕ
+  weight = weightOf r c w left (firstRounding r c w left)
+
+  unfoldable pub array : Weighted
+  array = record { weight = weight; counts = n }
+
+  pub low-weight : 0 < weight
+  unfolding weight n
+  low-weight = weight-low (p .shape) w wp n (f .rounding)
+
+  pub high-weight : weight ≤ w
+  unfolding weight n
+  high-weight = weight-high (p .shape) w wp n (f .rounding)
+
+  unfolded : (fuel w : ℕ) → 0 < w → w ≤ fuel → (left : List ℕ) → (m : ℕ) × (fuel ≡ suc m) × (roundsFrom fuel r c w left
+      ≡ record { weight = weightOf r c w left (firstRounding r c w left); counts = firstRounding r c w left }
+      ∷ roundsFrom m r c (w - weightOf r c w left (firstRounding r c w left)) (without (weightOf r c w left (firstRounding r c w left)) (firstRounding r c w left) left))
+  unfolding roundsFrom
+  unfolded zero w a b l = absurd (omega arith)
+  unfolded (suc m) zero a b l = absurd (omega arith)
+  unfolded (suc m) (suc v) a b l = (m, refl, refl)
+
+  pub array-rounds : isRounding r c d g n ≡ true
+  unfolding isRounding n
+  array-rounds = and-both (eq-length) (all-member (λ s. roundsTo d (total g s) (total n s)) (entryPlaces r c)
+      (λ s m. rounds d (total g s) (total n s)
+      (array-low (p .shape) w wp n (f .rounding) m (down d (total g s)) (up d (total g s)) (p .low s m) (p .high s m))
+      (array-high (p .shape) w wp n (f .rounding) m (down d (total g s)) (up d (total g s)) (p .low s m) (p .high s m))))
+    where
+      eq-length : lib.Dec.eqb (length n) (r * c) ≡ true
+      eq-length = borrow.Author.Tests.eq-eqb _ _ (rounding-length (p .shape) w n (f .rounding))
+
+  pub progress-step : Progress r c d g (w - weight) (k + 1) (without weight (firstRounding r c w left) left) (done ++ (array ∷ []))
+  unfolding weight array n rest
+  progress-step =
+      let u = unfolded (p .fuel) w wp (p .enough) left in
+      record {
+        shape = rest-shape (p .shape) w wp n (f .rounding);
+        count = length-append done (array ∷ []) ∙ omega (arith, p .count);
+        fuel = u .0;
+        enough = omega (arith, p .enough, u .1, low-weight);
+        rounds = p .rounds ∙ ap (λ (l : List Weighted). done ++ l) (u .2) ∙ sym (append-assoc done (array ∷ []) _);
+        weights = omega (arith, p .weights, sum-one-more array done (λ a. a .weight), high-weight);
+        positive = all-one-more array done _ (p .positive) (le-leb 1 weight low-weight);
+        rounded = all-one-more array done _ (p .rounded) array-rounds;
+        sums = λ s. omega (arith, p .sums s, sum-one-more array done (λ a. a .weight * total (a .counts) s), rest-total (p .shape) w wp n (f .rounding) s);
+        low = λ s m. rest-low (p .shape) w wp n (f .rounding) m (down d (total g s)) (up d (total g s)) (p .low s m) (p .high s m);
+        high = λ s m. rest-high (p .shape) w wp n (f .rounding) m (down d (total g s)) (up d (total g s)) (p .low s m) (p .high s m);
+        few = λ h. omega (arith, p .few wp, fewer (p .shape) w wp n (f .rounding) h);
+        most = omega (arith, p .few wp);
+      }
+
+-- at the end the arrays are those of the plan
+pub no-more : (fuel r c : ℕ) (left : List ℕ) → roundsFrom fuel r c 0 left ≡ []
+unfolding roundsFrom
+no-more zero r c left = refl
+no-more (suc m) r c left = refl
+
+pub progress-end : {r c d : ℕ} {g : List ℕ} {k : ℕ} {left : List ℕ} {done : List Weighted} → Progress r c d g 0 k left done → roundsFrom d r c d g ≡ done
+progress-end {r} {c} {d} {g} {k} {left} {done} p = p .rounds ∙ ap (λ (l : List Weighted). done ++ l) (no-more (p .fuel) r c left) ∙ append-nil done

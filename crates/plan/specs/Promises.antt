@@ -1,0 +1,34 @@
+-- What holds of the plan of every accepted table (01, "The plan" and "What demand 3 speaks of"; Ernst 1981, Section 3). Assumes nothing.
+use mathlib.Core.Path.{_≡_}
+use mathlib.Core.Bool.{true}
+use mathlib.Core.List.{List, map}
+use Prim.Native.Nat.{ℕ, _+_, _*_, _≤_}
+use lib.ListN.{length}
+use lib.Dec.{leb}
+use Rattle.table.specs.Lists.{sum, all}
+use Rattle.table.specs.Table.{total}
+use Rattle.rounding.specs.Rounding.{isRounding}
+use Rattle.stored.specs.Plan.{Weighted}
+use Rattle.stored.specs.Form.{planLength, decode}
+use Rattle.stored.specs.Open.{opens}
+use Rattle.plan.specs.Rounds.{roundsFrom, planOf, notWhole}
+use Rattle.plan.specs.Call.{planBytes}
+
+pub record Promises (r c d : ℕ) (g : List ℕ) (arrays : List Weighted) : Type 0 where
+  -- the weights are at least 1 and add up to D
+  pub positive : all (λ a. leb 1 (a .weight)) arrays ≡ true
+  pub weights : sum (map (λ a. a .weight) arrays) ≡ d
+  -- the weighted counts add up to the table: for any places, so for every cell, row, column and the grand total
+  pub sums : (s : List ℕ) → sum (map (λ a. a .weight * total (a .counts) s) arrays) ≡ total g s
+  -- every array is a controlled rounding of the table itself
+  pub rounded : all (λ a. isRounding r c d g (a .counts)) arrays ≡ true
+  -- at most one array more than entries that are not whole, so at most 170
+  pub few : length arrays ≤ notWhole r c d g + 1
+  pub most : length arrays ≤ 170
+  -- the stored plan has the length that 01 gives, from 30 to 50,912 bytes
+  pub len : length (planBytes r c d g) ≡ planLength r c (length arrays)
+  pub len-low : 30 ≤ length (planBytes r c d g)
+  pub len-high : length (planBytes r c d g) ≤ 50912
+  -- it opens, to this plan
+  pub opening : opens (planBytes r c d g) ≡ true
+  pub decodes : decode (planBytes r c d g) ≡ planOf r c d g

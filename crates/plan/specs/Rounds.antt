@@ -1,0 +1,42 @@
+-- Rounds, limits and weights: the plan of a table (01, "The plan"; Ernst 1981, Section 3). Assumes nothing.
+use mathlib.Core.Bool.{Bool, cond}
+use mathlib.Core.List.{List, [], _∷_, map, zipWith}
+use Prim.Native.Nat.{ℕ, zero, suc, _+_, _-_, _*_}
+use lib.Dec.{eqb}
+use Rattle.table.specs.Lists.{sum, least}
+use Rattle.table.specs.Table.{total, entryPlaces}
+use Rattle.table.specs.Whole.{down, gap}
+use Rattle.rounding.specs.Rounding.{firstRounding}
+use Rattle.stored.specs.Plan.{Weighted, Plan}
+
+-- "Each entry has a limit: if its count n is the entry rounded down, the limit is (n+1)·W − entry (so W for a whole entry); if it is rounded up,
+-- entry − (n−1)·W."
+unfoldable pub limitOf : ℕ → ℕ → ℕ → ℕ
+limitOf w e n = cond (eqb n (down w e)) ((n + 1) * w - e) (e - (n - 1) * w)
+
+-- "The weight w of N is the smallest limit over all entries."
+unfoldable pub weightOf : ℕ → ℕ → ℕ → List ℕ → List ℕ → ℕ
+weightOf r c w g n = least (map (λ s. limitOf w (total g s) (total n s)) (entryPlaces r c))
+
+-- "Then R loses w·N"
+unfoldable pub without : ℕ → List ℕ → List ℕ → List ℕ
+without x n g = zipWith (λ e k. e - x * k) g n
+
+-- "the remaining weight W, at first D, and the remaining table R, at first g, whose denominator is W. A round is: N is the first controlled rounding
+-- of R over W. [..] and W loses w. The plan ends when W is 0." At most `fuel` rounds.
+unfoldable pub roundsFrom : ℕ → ℕ → ℕ → ℕ → List ℕ → List Weighted
+roundsFrom zero r c w g = []
+roundsFrom (suc fuel) r c zero g = []
+roundsFrom (suc fuel) r c (suc v) g =
+    let w = suc v in
+    let n = firstRounding r c w g in
+    let x = weightOf r c w g n in
+    record { weight = x; counts = n } ∷ roundsFrom fuel r c (w - x) (without x n g)
+
+-- A weight is at least 1, so D rounds are enough.
+unfoldable pub planOf : ℕ → ℕ → ℕ → List ℕ → Plan
+planOf r c d g = record { rows = r; columns = c; denominator = d; cells = g; arrays = roundsFrom d r c d g }
+
+-- how many entries are not whole, totals included
+unfoldable pub notWhole : ℕ → ℕ → ℕ → List ℕ → ℕ
+notWhole r c w g = sum (map (λ s. gap w (total g s)) (entryPlaces r c))

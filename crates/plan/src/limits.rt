@@ -1,0 +1,58 @@
+// The limits of a round, and its weight.
+ghost use mathlib.Core.Path.{_≡_};
+ghost use mathlib.Core.Bool.{true};
+ghost use Prim.Native.Nat.{ℕ, _≤_, _<_, min};
+ghost use lib.ListN.{length};
+ghost use Rattle.table.specs.Whole.{roundsTo};
+ghost use Rattle.plan.specs.Rounds.{limitOf};
+ghost use Rattle.plan.specs.Grids.{Rounded, Limits, Smallest, Bears, Lost};
+
+// The limit of an entry e over w whose count is n: how much weight it bears until it leaves its bounds.
+pub fn limit(w: u64, e: u64, n: u64) -> u64
+    requires { ⌜ ((0 < w) × (w ≤ 65535)) × ((e ≤ 9437040000) × (roundsTo w e n ≡ true)) ⌝ }
+    ensures { λ r. ⌜ r ≡ limitOf w e n ⌝ }
+{
+    let whole = n * w;
+    if whole <= e {
+        whole + w - e
+    } else {
+        e + w - whole
+    }
+}
+
+// The limits of all entries.
+pub fn limits(w: u64, e: &[u64; 169], n: &[u64; 169], l: &mut [u64; 169])
+    requires { ⌜ Rounded w (now e) (now n) × (length (now l) ≡ 169) ⌝ }
+    ensures { λ _. ⌜ Limits w (now (e .entry)) (now (n .entry)) (now (l .exit)) ⌝ }
+{
+    for k in 0..169 {
+        l[k] = limit(w, e[k], n[k]);
+    }
+}
+
+fn smaller(x: u64, y: u64) -> u64
+    ensures { λ r. ⌜ r ≡ min x y ⌝ }
+{
+    if y < x { y } else { x }
+}
+
+// The smallest of 169 numbers.
+pub fn smallest(l: &[u64; 169]) -> u64
+    ensures { λ r. ⌜ Smallest (now (l .entry)) r ⌝ }
+{
+    let mut x = l[0];
+    for k in 1..169 {
+        x = smaller(x, l[k]);
+    }
+    x
+}
+
+// Takes x times each count off its entry.
+pub fn lose(x: u64, n: &[u64; 169], e: &mut [u64; 169])
+    requires { ⌜ Bears x (now e) (now n) ⌝ }
+    ensures { λ _. ⌜ Lost x (now (e .entry)) (now (n .entry)) (now (e .exit)) ⌝ }
+{
+    for k in 0..169 {
+        e[k] = e[k] - x * n[k];
+    }
+}

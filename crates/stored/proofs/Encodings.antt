@@ -1,0 +1,158 @@
+-- What stands where in a stored plan. Assumes nothing.
+use mathlib.Core.Path.{_≡_, refl, sym, ap, _∙_}
+use mathlib.Core.List.{List, [], _∷_, _++_}
+use Prim.Native.Nat.{ℕ, zero, suc, _+_, _*_, _/_, _%_, _^_, _<_, _≤_}
+use native.Mathlib.Nat.{add-zero, zero-add, suc-add, mul-comm, pow-zero, pow-suc, pow-succ', one-le-pow, div-one, div-div-eq-div-mul, div-lt-iff-lt-mul}
+use native.Mathlib.Omega.{arith}
+use lib.Arith.{mod-mul, digits-div}
+use lib.ListN.{length, getD, length-append}
+use Rattle.table.specs.Lists.{joinTo}
+use Rattle.stored.specs.Plan.{Plan, arrayAt}
+use Rattle.stored.specs.Form.{bytes, number, head, entry, bodyAt, planLength, fieldIn, encode}
+use Rattle.stored.proofs.Joins.{length-join, Holds, holds-all, holds-left, holds-right, holds-part}
+
+pub length-bytes : (n x : ℕ) → length (bytes n x) ≡ n
+unfolding bytes
+length-bytes zero x = refl
+length-bytes (suc n) x = ap suc (length-bytes n (x / 256))
+
+-- the low m bytes of a number, and the n above them
+pub bytes-split : (m n x : ℕ) → bytes m (x % 256 ^ m) ++ bytes n (x / 256 ^ m) ≡ bytes (m + n) x
+unfolding bytes
+bytes-split zero n x = simp (pow-zero, div-one, zero-add)
+bytes-split (suc m) n x =
+    let some : 0 < 256 ^ m = one-le-pow m 256 (omega arith) in
+    let low : x % 256 ^ suc m ≡ x / 256 % 256 ^ m * 256 + x % 256 = rw (pow-suc 256 m) (mod-mul x some (omega arith)) in
+    let byte : x % 256 ^ suc m % 256 ≡ x % 256 = omega (arith, low) in
+    let above : x % 256 ^ suc m / 256 ≡ x / 256 % 256 ^ m = ap (λ (y : ℕ). y / 256) low ∙ digits-div (x / 256 % 256 ^ m) (omega arith) in
+    let high : x / 256 ^ suc m ≡ x / 256 / 256 ^ m = rw (pow-succ' 256 m) (sym (div-div-eq-div-mul x 256 (256 ^ m))) in
+    rw (suc-add m n, byte, above, high) (ap (λ l. x % 256 ∷ l) (bytes-split m n (x / 256)))
+
+-- a number that fits its bytes is read where they stand
+pub number-held : (n : ℕ) {b : List ℕ} {at x : ℕ} → Holds b at (bytes n x) → x < 256 ^ n → number n b at ≡ x
+unfolding bytes number
+number-held zero h l = omega arith
+number-held (suc n) {b} {at} {x} h l =
+    let low : getD b at 0 ≡ x % 256 = rw (add-zero at) at (h .is 0 (omega arith)) in
+    let less : x / 256 < 256 ^ n = div-lt-iff-lt-mul {k = 256} (omega arith) .1 (rw (pow-suc 256 n) at l) in
+    omega (arith, number-held n (holds-right (x % 256 ∷ []) h refl) less)
+
+pub length-head : (r c k : ℕ) → length (head r c k) ≡ 8
+unfolding head bytes
+length-head r c k = refl
+
+pub length-entry : (field offset : ℕ) → length (entry field offset) ≡ 8
+unfolding entry bytes
+length-entry field offset = refl
+
+-- n numbers of w bytes each
+pub length-numbers : (n w : ℕ) (f : ℕ → ℕ) → length (joinTo n (λ i. bytes w (f i))) ≡ w * n
+length-numbers n w f = length-join n w _ (λ i. length-bytes w (f i)) ∙ mul-comm n w
+
+-- the four parts of a stored plan
+module _ (p : Plan) where
+  abbrev r : ℕ
+  r = p .rows
+
+  abbrev c : ℕ
+  c = p .columns
+
+  abbrev k : ℕ
+  k = length (p .arrays)
+
+  abbrev countIn : ℕ → ℕ → ℕ
+  countIn j i = getD (arrayAt (p .arrays) j .counts) i 0
+
+  abbrev contents : List ℕ
+  contents = joinTo (k + 1) (λ i. entry (fieldIn p i) (bodyAt r c k i))
+
+  abbrev table : List ℕ
+  table = joinTo (r * c) (λ i. bytes 4 (getD (p .cells) i 0))
+
+  abbrev body : ℕ → List ℕ
+  body j = joinTo (r * c) (λ i. bytes 2 (countIn j i))
+
+  abbrev bodies : List ℕ
+  bodies = joinTo k body
+
+  length-contents : length contents ≡ 8 * (k + 1)
+  length-contents = length-join (k + 1) 8 _ (λ i. length-entry _ _) ∙ mul-comm (k + 1) 8
+
+  length-table : length table ≡ 4 * (r * c)
+  length-table = length-numbers (r * c) 4 (λ i. getD (p .cells) i 0)
+
+  length-bodies : length bodies ≡ k * (2 * (r * c))
+  length-bodies = length-join k (2 * (r * c)) _ (λ j. length-numbers (r * c) 2 (countIn j))
+
+  pub encode-length : length (encode p) ≡ planLength r c k
+  unfolding encode
+  encode-length =
+      simp length-append (omega (arith, length-head r c k, length-contents, length-table, length-bodies))
+
+  all-parts : Holds (encode p) 0 (head r c k ++ contents ++ table ++ bodies)
+  unfolding encode
+  all-parts = holds-all (encode p)
+
+  at-contents : Holds (encode p) 8 contents
+  at-contents = holds-right (head r c k) (holds-left table (holds-left bodies all-parts)) (omega (arith, length-head r c k))
+
+  at-table : Holds (encode p) (bodyAt r c k 0) table
+  at-table = holds-right (head r c k ++ contents) (holds-left bodies all-parts) (simp length-append (omega (arith, length-head r c k, length-contents)))
+
+  at-bodies : Holds (encode p) (bodyAt r c k 0 + 4 * (r * c)) bodies
+  at-bodies = holds-right (head r c k ++ contents ++ table) all-parts
+      (simp length-append (omega (arith, length-head r c k, length-contents, length-table)))
+
+  -- entry i of the contents
+  pub holds-entry : (i : ℕ) → i ≤ k → Holds (encode p) (8 + 8 * i) (entry (fieldIn p i) (bodyAt r c k i))
+  holds-entry i l = holds-part (k + 1) 8 _ (λ i. length-entry _ _) at-contents i (omega arith) (omega arith)
+
+  -- cell i of the table
+  pub holds-cell : (i : ℕ) → i < r * c → Holds (encode p) (bodyAt r c k 0 + 4 * i) (bytes 4 (getD (p .cells) i 0))
+  holds-cell i l = holds-part (r * c) 4 _ (λ i. length-bytes 4 _) at-table i l (omega arith)
+
+  -- body j of the arrays, and its cell i
+  holds-body : (j : ℕ) → j < k → Holds (encode p) (bodyAt r c k (suc j)) (body j)
+  holds-body j l = holds-part k (2 * (r * c)) body (λ j. length-numbers (r * c) 2 (countIn j)) at-bodies j l refl
+
+  pub holds-count : (j i : ℕ) → j < k → i < r * c → Holds (encode p) (bodyAt r c k (suc j) + 2 * i) (bytes 2 (countIn j i))
+  holds-count j i l m = holds-part (r * c) 2 _ (λ i. length-bytes 2 _) (holds-body j l) i m (omega arith)
+
+-- every element is a byte
+pub record AllBytes (l : List ℕ) : Type 0 where
+  pub below : (i : ℕ) → getD l i 0 < 256
+
+append-below : {l m : List ℕ} → AllBytes l → AllBytes m → AllBytes (l ++ m)
+append-below {l} {m} a b = record { below = go l (a .below) }
+  where
+    go : (l : List ℕ) → ((i : ℕ) → getD l i 0 < 256) → (i : ℕ) → getD (l ++ m) i 0 < 256
+    go [] h i = b .below i
+    go (x ∷ l) h zero = h 0
+    go (x ∷ l) h (suc i) = go l (λ j. h (suc j)) i
+
+bytes-below : (n x : ℕ) → AllBytes (bytes n x)
+unfolding bytes
+bytes-below n x = record { below = go n x }
+  where
+    go : (n x i : ℕ) → getD (bytes n x) i 0 < 256
+    go zero x i = omega arith
+    go (suc n) x zero = omega arith
+    go (suc n) x (suc i) = go n (x / 256) i
+
+join-below : (n : ℕ) (f : ℕ → List ℕ) → ((j : ℕ) → AllBytes (f j)) → AllBytes (joinTo n f)
+unfolding joinTo
+join-below zero f h = record { below = λ i. omega arith }
+join-below (suc n) f h = append-below (join-below n f h) (h n)
+
+pub encode-below : (p : Plan) → AllBytes (encode p)
+unfolding encode head entry
+encode-below p = append-below (append-below (append-below start contents-below) (join-below _ _ (λ i. bytes-below 4 _))) bodies-below
+  where
+    start : AllBytes (head (p .rows) (p .columns) (length (p .arrays)))
+    start = append-below (append-below (append-below (append-below (bytes-below 2 1) (bytes-below 1 _)) (bytes-below 1 _)) (bytes-below 2 _)) (bytes-below 2 0)
+
+    contents-below : AllBytes (contents p)
+    contents-below = join-below _ _ (λ i. append-below (bytes-below 4 _) (bytes-below 4 _))
+
+    bodies-below : AllBytes (bodies p)
+    bodies-below = join-below _ _ (λ j. join-below _ _ (λ i. bytes-below 2 _))

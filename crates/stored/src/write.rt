@@ -1,0 +1,144 @@
+// Writing a plan in stored form 1.
+ghost use mathlib.Core.Path.{_≡_};
+ghost use Prim.Native.Nat.{_+_, _*_, _≤_};
+ghost use lib.ListN.{length};
+ghost use Rattle.table.specs.Lists.{joinTo};
+ghost use Rattle.table.specs.Answer.{written};
+ghost use Rattle.stored.specs.Form.{bytes, bodyAt, head, entry, encode};
+ghost use Rattle.stored.specs.Write.{heldPlan, heldField, heldEntry, numbers, putAt, Bounded, Writable};
+
+// Puts a number at a place, low byte first.
+fn put1(x: u8, at: usize, plan: &mut [u8])
+    requires { ⌜ at + 1 ≤ length (now plan) ⌝ }
+    ensures { λ _. ⌜ now (plan .exit) ≡ putAt (now (plan .entry)) at (bytes 1 x) ⌝ }
+{
+    plan[at] = x;
+}
+
+fn put2(x: u16, at: usize, plan: &mut [u8])
+    requires { ⌜ at + 2 ≤ length (now plan) ⌝ }
+    ensures { λ _. ⌜ now (plan .exit) ≡ putAt (now (plan .entry)) at (bytes 2 x) ⌝ }
+{
+    put1((x % 256) as u8, at, plan);
+    put1((x / 256) as u8, at + 1, plan);
+}
+
+fn put4(x: u32, at: usize, plan: &mut [u8])
+    requires { ⌜ at + 4 ≤ length (now plan) ⌝ }
+    ensures { λ _. ⌜ now (plan .exit) ≡ putAt (now (plan .entry)) at (bytes 4 x) ⌝ }
+{
+    put2((x % 65536) as u16, at, plan);
+    put2((x / 65536) as u16, at + 2, plan);
+}
+
+fn head(rows: usize, columns: usize, arrays: usize, plan: &mut [u8])
+    requires { ⌜ Bounded rows columns arrays × (8 ≤ length (now plan)) ⌝ }
+    ensures { λ _. ⌜ now (plan .exit) ≡ putAt (now (plan .entry)) 0 (head rows columns arrays) ⌝ }
+{
+    put2(1, 0, plan);
+    put1(rows as u8, 2, plan);
+    put1(columns as u8, 3, plan);
+    put2(arrays as u16, 4, plan);
+    put2(0, 6, plan);
+}
+
+// Where body i begins.
+fn body_at(rows: usize, columns: usize, arrays: usize, i: usize) -> usize
+    requires { ⌜ Bounded rows columns arrays × (i ≤ arrays) ⌝ }
+    ensures { λ r. ⌜ r ≡ bodyAt rows columns arrays i ⌝ }
+{
+    let table = 8 + 8 * (arrays + 1);
+    if i == 0 {
+        return table;
+    }
+    let cells = rows * columns;
+    table + 4 * cells + (i - 1) * (2 * cells)
+}
+
+// The number beside the offset in entry i of the contents.
+fn field(denominator: u32, weights: &[u32], i: usize) -> u32
+    requires { ⌜ i ≤ length (now weights) ⌝ }
+    ensures { λ r. ⌜ r ≡ heldField denominator (now (weights .entry)) i ⌝ }
+{
+    if i == 0 {
+        return denominator;
+    }
+    weights[i - 1]
+}
+
+fn entry(field: u32, offset: u32, at: usize, plan: &mut [u8])
+    requires { ⌜ at + 8 ≤ length (now plan) ⌝ }
+    ensures { λ _. ⌜ now (plan .exit) ≡ putAt (now (plan .entry)) at (entry field offset) ⌝ }
+{
+    put4(field, at, plan);
+    put4(offset, at + 4, plan);
+}
+
+fn contents(
+    rows: usize,
+    columns: usize,
+    denominator: u32,
+    arrays: usize,
+    weights: &[u32],
+    plan: &mut [u8],
+)
+    requires { ⌜ Bounded rows columns arrays × (arrays ≤ length (now weights)) × (8 + 8 * (arrays + 1) ≤ length (now plan)) ⌝ }
+    ensures { λ _. ⌜ now (plan .exit)
+        ≡ putAt (now (plan .entry)) 8 (joinTo (arrays + 1) (heldEntry rows columns denominator arrays (now (weights .entry)))) ⌝ }
+{
+    for i in 0..arrays + 1 {
+        entry(
+            field(denominator, weights, i),
+            body_at(rows, columns, arrays, i) as u32,
+            8 + 8 * i,
+            plan,
+        );
+    }
+}
+
+// Puts the cells of the table from a place on.
+fn cells_at(cells: &[u32], at: usize, plan: &mut [u8])
+    requires { ⌜ at + 4 * length (now cells) ≤ length (now plan) ⌝ }
+    ensures { λ _. ⌜ now (plan .exit) ≡ putAt (now (plan .entry)) at (numbers 4 (length (now (cells .entry))) (now (cells .entry))) ⌝ }
+{
+    for i in 0..cells.len() {
+        put4(cells[i], at + 4 * i, plan);
+    }
+}
+
+// Puts the counts of the arrays from a place on.
+fn counts_at(counts: &[u16], count: usize, at: usize, plan: &mut [u8])
+    requires { ⌜ (count ≤ length (now counts)) × (at + 2 * count ≤ length (now plan)) ⌝ }
+    ensures { λ _. ⌜ now (plan .exit) ≡ putAt (now (plan .entry)) at (numbers 2 count (now (counts .entry))) ⌝ }
+{
+    for i in 0..count {
+        put2(counts[i], at + 2 * i, plan);
+    }
+}
+
+// Writes a plan at the start of a buffer: the table's cells, and `arrays` arrays by their weights and their counts, which stand one after another.
+pub fn write(
+    rows: usize,
+    columns: usize,
+    denominator: u32,
+    cells: &[u32],
+    arrays: usize,
+    weights: &[u32],
+    counts: &[u16],
+    plan: &mut [u8],
+)
+    requires { ⌜ Writable rows columns (now cells) arrays (now weights) (now counts) (now plan) ⌝ }
+    ensures { λ _. ⌜ now (plan .exit) ≡ written
+        (encode (heldPlan rows columns denominator (now (cells .entry)) arrays (now (weights .entry)) (now (counts .entry))))
+        (now (plan .entry)) ⌝ }
+{
+    head(rows, columns, arrays, plan);
+    contents(rows, columns, denominator, arrays, weights, plan);
+    cells_at(cells, body_at(rows, columns, arrays, 0), plan);
+    counts_at(
+        counts,
+        arrays * (rows * columns),
+        body_at(rows, columns, arrays, 1),
+        plan,
+    );
+}
