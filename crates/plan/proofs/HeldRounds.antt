@@ -4,7 +4,7 @@ use mathlib.Core.Bool.{true}
 use mathlib.Core.List.{List, [], _∷_, _++_, map}
 use Prim.Native.Nat.{ℕ, zero, suc, _+_, _-_, _*_, _/_, _%_, _≤_, _<_}
 use native.Mathlib.Decide.{decLt}
-use native.Mathlib.Nat.{mul-le-mul, suc-mul, div-le-of-le-mul, mul-comm}
+use native.Mathlib.Nat.{mul-le-mul, suc-mul}
 use native.Mathlib.Omega.{arith}
 use lib.Arith.{digits-lt}
 use lib.ListN.{length, getD, set, length-set, length-append, List·getD-append, List·getD-eq-default}
@@ -13,18 +13,17 @@ use mir.Val.{Fits}
 use mir.Syntax.{w64}
 use Rattle.table.specs.Lists.{tabulate, sum}
 use Rattle.table.specs.Table.{total, cellPlaces, rowPlaces, columnPlaces, lines, entryPlaces, gridPlaces, gridAt, gridOf}
-use Rattle.table.specs.Whole.{down, gap}
+use Rattle.table.specs.Whole.{gap}
 use Rattle.table.specs.Shape.{Shape, IsTable}
 use Rattle.table.specs.Fill.{Filled}
 use Rattle.table.proofs.Lists.{length-tabulate, each-more}
 use Rattle.table.proofs.Totals.{grid-at, length-grid}
-use Rattle.table.proofs.GridSums.{cell-at}
-use Rattle.table.proofs.EntryBounds.{cell-at-most, grid-small}
-use Rattle.table.proofs.Roundings.{gap-le, rounds-high}
+use Rattle.table.proofs.EntryBounds.{grid-small}
+use Rattle.table.proofs.Roundings.{gap-le}
 use Rattle.rounding.specs.Rounding.{isRounding, IsFirst, firstRounding}
 use Rattle.rounding.specs.Lines.{cellIn, IsGrid, Ready}
-use Rattle.rounding.proofs.Roundings.{shape-of, rounding-length, rounding-grid}
-use Rattle.rounding.proofs.Calls.{cell-of-grid}
+use Rattle.rounding.proofs.Roundings.{shape-of, rounding-length}
+use Rattle.rounding.proofs.Calls.{cell-of-grid, array-small}
 use Rattle.stored.specs.Plan.{Weighted, arrayAt}
 use Rattle.plan.specs.Rounds.{weightOf, without, notWhole}
 use Rattle.plan.specs.Progress.{Progress}
@@ -60,15 +59,6 @@ pub few-not-whole : {r c : ℕ} → r ≤ 12 → c ≤ 12 → (w : ℕ) (g : Lis
 unfolding notWhole
 few-not-whole {r} {c} hr hc w g =
     omega (arith, sum-map-length (λ s. gap w (total g s)) (entryPlaces r c) (λ s. gap-le w (total g s)), entries-length r c, mul-le-mul hr hc)
-
--- a count of an array that rounds the table is small
-pub array-small : {r c d : ℕ} {g : List ℕ} (t : IsTable r c d g) (a : List ℕ) → isRounding r c d g a ≡ true → (i j : ℕ) → i < r → j < c → gridAt r c a i j ≤ 65535
-array-small {r} {c} {d} {g} t a h i j hi hj =
-    let high = rounds-high d (gridAt r c g i j) (gridAt r c a i j)
-    (rounding-grid (t .shape) d a h i j (omega (arith, t .shape .rows)) (omega (arith, t .shape .columns))) in
-    let cell : gridAt r c g i j ≡ getD g (i * c + j) 0 = cell-at (t .shape) i j hi hj in
-    let bound : gridAt r c g i j ≤ d * 1000 = omega (arith, cell-at-most t (i * c + j), mul-comm d 1000) in
-    omega (arith, gap-le d (gridAt r c g i j), div-le-of-le-mul d bound)
 
 module _ {r c d : ℕ} {g : List ℕ} (t : IsTable r c d g) {w k : ℕ} {e weights counts : List ℕ} (o : Held r c d g w k e weights counts) where
   pub weight-small : w ≤ 65535

@@ -1,14 +1,14 @@
 -- When no weight is left: the plan is what was gathered, and what it promises. Assumes nothing.
-use mathlib.Core.Path.{_≡_, refl, sym, ap, ap₂, subst, _∙_}
+use mathlib.Core.Path.{_≡_, refl, sym, ap, ap₂, _∙_}
 use mathlib.Core.Bool.{Bool, true, false, _&&_}
 use mathlib.Core.List.{List, [], _∷_, _++_, map, List·Memᴰ as Member}
 use Prim.Native.Nat.{ℕ, zero, suc, _+_, _-_, _*_, _/_, _%_, _^_, _≤_, _<_}
 use native.Mathlib.Decide.{decLt}
 use native.Mathlib.Nat.{mul-le-mul, mul-zero, mod-lt, div-lt-iff-lt-mul, div-add-mod'}
 use native.Mathlib.Omega.{arith}
-use lib.ListN.{length, getD, List·getD-eq-default, List·getD-map}
+use lib.ListN.{length, getD, List·getD-eq-default}
 use lib.Dec.{leb, eqb}
-use borrow.Author.Tests.{le-leb, leb-true, eq-eqb}
+use borrow.Author.Tests.{le-leb, eq-eqb}
 use Rattle.table.specs.Lists.{tabulate, sum, all}
 use Rattle.table.specs.Table.{total, cellPlaces, allPlaces, lines, entryPlaces, gridAt}
 use Rattle.table.specs.Whole.{down, up, roundsTo}
@@ -33,7 +33,8 @@ use Rattle.plan.specs.Promises.{Promises}
 use Rattle.plan.proofs.GridMembers.{cell-in}
 use Rattle.plan.proofs.OneRound.{total-cell}
 use Rattle.plan.proofs.Progressing.{progress-end}
-use Rattle.plan.proofs.HeldRounds.{few-not-whole, array-small}
+use Rattle.rounding.proofs.Calls.{array-small}
+use Rattle.plan.proofs.HeldRounds.{few-not-whole}
 
 -- a number of a list is at most its sum
 at-most-sum : (f : Weighted → ℕ) → f (record { weight = 0; counts = [] }) ≡ 0 → (l : List Weighted) (i : ℕ) → f (arrayAt l i) ≤ sum (map f l)
@@ -60,9 +61,6 @@ total-zero g h (i ∷ s) = omega (arith, h i, total-zero g h s)
 module _ {r c d : ℕ} {g : List ℕ} (t : IsTable r c d g) {k : ℕ} {weights counts : List ℕ} (a : AllHeld r c d g k weights counts) where
   p : Progress r c d g 0 k (a .held .rest) (a .held .done)
   p = a .held .progress
-
-  arrays : List Weighted
-  arrays = roundsFrom d r c d g
 
   arrays-are : roundsFrom d r c d g ≡ a .held .done
   arrays-are = progress-end p

@@ -28,7 +28,7 @@ use Rattle.table.proofs.GridSums.{cell-at}
 use Rattle.table.proofs.EntryBounds.{cell-at-most, grid-small}
 use Rattle.table.proofs.Roundings.{gap-le, rounds-high}
 use Rattle.table.proofs.Filling.{filled-written}
-use Rattle.rounding.specs.Rounding.{IsFirst, firstRounding}
+use Rattle.rounding.specs.Rounding.{isRounding, IsFirst, firstRounding}
 use Rattle.rounding.specs.Lines.{cellIn, IsGrid, RoundedGrid, Ready}
 use Rattle.rounding.specs.Call.{roundAnswer}
 use Rattle.rounding.proofs.Roundings.{shape-of, rounding-length, rounding-grid}
@@ -51,6 +51,15 @@ module _ {r c d : ℕ} {g : List ℕ} (t : IsTable r c d g) where
   pub table-grid : (e : List ℕ) → e ≡ gridOf r c g → IsGrid e
   table-grid e is = record { rows = r; columns = c; cells = g; shape = t .shape; is = is; small = rw is (grid-small t) }
 
+  -- a count of a controlled rounding is at most 1,001
+  pub array-small : (a : List ℕ) → isRounding r c d g a ≡ true → (i j : ℕ) → i < r → j < c → gridAt r c a i j ≤ 65535
+  array-small a h i j hi hj =
+      let high = rounds-high d (gridAt r c g i j) (gridAt r c a i j)
+      (rounding-grid (t .shape) d a h i j (omega (arith, t .shape .rows)) (omega (arith, t .shape .columns))) in
+      let cell : gridAt r c g i j ≡ getD g (i * c + j) 0 = cell-at (t .shape) i j hi hj in
+      let bound : gridAt r c g i j ≤ d * 1000 = omega (arith, cell-at-most t (i * c + j), mul-comm d 1000) in
+      omega (arith, gap-le d (gridAt r c g i j), div-le-of-le-mul d bound)
+
   module _ {e n : List ℕ} (is : e ≡ gridOf r c g) (o : RoundedGrid d e n) where
     array : List ℕ
     array = firstRounding r c d g
@@ -65,13 +74,10 @@ module _ {r c d : ℕ} {g : List ℕ} (t : IsTable r c d g) where
     count-small : (i j : ℕ) → i < r → j < c → getD n (i * 13 + j) 0 ≤ 65535
     unfolding array
     count-small i j hi hj =
-        let p : i < 13 = omega (arith, t .shape .rows) in
-        let q : j < 13 = omega (arith, t .shape .columns) in
-        let at : getD n (i * 13 + j) 0 ≡ gridAt r c array i j = ap (λ (l : List ℕ). getD l (i * 13 + j) 0) (o .is r c g (t .shape) is) ∙ grid-at r c array i j p q in
-        let high = rounds-high d (gridAt r c g i j) (gridAt r c array i j) (rounding-grid (t .shape) d array (array-first .rounding) i j p q) in
-        let cell : gridAt r c g i j ≡ getD g (i * c + j) 0 = cell-at (t .shape) i j hi hj in
-        let bound : gridAt r c g i j ≤ d * 1000 = omega (arith, cell-at-most t (i * c + j), mul-comm d 1000) in
-        omega (arith, gap-le d (gridAt r c g i j), div-le-of-le-mul d bound)
+        let at : getD n (i * 13 + j) 0 ≡ gridAt r c array i j =
+        ap (λ (l : List ℕ). getD l (i * 13 + j) 0) (o .is r c g (t .shape) is)
+        ∙ grid-at r c array i j (omega (arith, t .shape .rows)) (omega (arith, t .shape .columns)) in
+        omega (arith, array-small array (array-first .rounding) i j hi hj)
 
     pub cells-ready : (room : ℕ) → r * c ≤ room → Ready n r c room 0
     cells-ready room h = record {

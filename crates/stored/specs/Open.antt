@@ -1,8 +1,8 @@
 -- When a plan opens, and what a draw from it gives (01, "Stored plan, form 1" and "Turned back"). Assumes nothing.
 use mathlib.Core.Bool.{Bool, cond, _&&_}
-use mathlib.Core.List.{List, _++_, map}
+use mathlib.Core.List.{List, map}
 use Prim.Native.Nat.{ℕ, _*_}
-use lib.ListN.{length, getD, drop}
+use lib.ListN.{getD}
 use lib.Dec.{leb, ltb, eqb}
 use Rattle.table.specs.Lists.{tabulate, sum, all}
 use Rattle.table.specs.Table.{lines, total}
