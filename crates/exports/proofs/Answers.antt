@@ -7,10 +7,14 @@ use Rattle.table.specs.declared.Answer.{Answer}
 use Rattle.plan.specs.Call.{plannedNumber, afterPlan}
 use Rattle.plan.specs.declared.Planned.{Planned}
 
-pub as-number : {n : ℕ} {a b : Answer} (new old out : List ℕ) → n ≡ answerNumber a → a ≡ b → out ≡ after a new old
+pub as-number : {A : Type 0} {n : ℕ} {a b : Answer} (new old out : A) → n ≡ answerNumber a → a ≡ b → out ≡ after a new old
     → (n ≡ answerNumber b) × (out ≡ after b new old)
 as-number new old out e h k = (e ∙ ap answerNumber h, k ∙ ap (λ (x : Answer). after x new old) h)
 
 pub as-plan-number : {n : ℕ} {a b : Planned} (new old out : List ℕ) → n ≡ plannedNumber a → a ≡ b → out ≡ afterPlan a new old
     → (n ≡ plannedNumber b) × (out ≡ afterPlan b new old)
 as-plan-number new old out e h k = (e ∙ ap plannedNumber h, k ∙ ap (λ (x : Planned). afterPlan x new old) h)
+
+-- what a call leaves, by the answer's definition
+pub left-by : {A : Type 0} {a b : Answer} (new old out : A) → a ≡ b → out ≡ after a new old → out ≡ after b new old
+left-by new old out h k = k ∙ ap (λ (x : Answer). after x new old) h

@@ -1,5 +1,6 @@
 //! Times of the calls on tables of twelve by twelve over the largest denominator.
 
+mod campaign;
 mod draw;
 mod open;
 mod plan;
@@ -12,4 +13,5 @@ fn main() {
     let plans = inputs::stored_plans(&tables);
     open::measure(&plans);
     draw::measure(&plans);
+    campaign::measure(&plans);
 }

@@ -5,4 +5,5 @@ pub mod cases;
 pub mod damage;
 pub mod lent_tables;
 pub mod plans;
+pub mod records;
 pub mod request;

@@ -3,9 +3,11 @@
 //! `compare [long] [NAME [SEED]]`: all kinds of cases, or those whose name is or
 //! begins with NAME, or the one case with this seed. It ends at the first difference.
 
+mod campaign;
 mod draw;
 mod open;
 mod plan;
+mod print;
 mod round;
 
 use compare::cases::{case_seed, Calls, Difference, Kind, Named};
@@ -19,6 +21,8 @@ const CALLS: &[(&[Kind], &[Named])] = &[
     (plan::KINDS, plan::NAMED),
     (open::KINDS, open::NAMED),
     (draw::KINDS, draw::NAMED),
+    (campaign::KINDS, campaign::NAMED),
+    (print::KINDS, print::NAMED),
 ];
 
 fn main() -> ExitCode {

@@ -1,0 +1,68 @@
+-- What every run is held to (01, "What demand 3 speaks of"). Assumes nothing.
+use mathlib.Core.Path.{_≡_, sym, ap, _∙_}
+use mathlib.Core.Bool.{true, cond}
+use mathlib.Core.List.{List, List·Memᴰ as Member}
+use Prim.Native.Nat.{ℕ, _+_, _*_, _<_, _≤_}
+use native.Mathlib.Nat.{mul-comm}
+use native.Mathlib.Omega.{arith}
+use Rattle.table.specs.Lists.{sumTo}
+use Rattle.table.specs.Table.{total}
+use Rattle.table.specs.Whole.{down, up}
+use Rattle.table.proofs.Sums.{sum-ext, sum-le, sum-zero, sum-add, sum-mul}
+use Rattle.stored.specs.Plan.{Plan}
+use Rattle.stored.specs.Form.{decode}
+use Rattle.stored.specs.Open.{heldTo}
+use Rattle.campaign.specs.Record.{CampaignRecord}
+use Rattle.campaign.specs.Claim.{Made, used, accepted, drawn, unused, Claim}
+use Rattle.campaign.proofs.Tests.{test-times, test-parts, test-le}
+use Rattle.campaign.proofs.Opened.{Sound, sound}
+use Rattle.campaign.proofs.Numbers.{array-entry, planned-sum}
+use Rattle.campaign.proofs.Steps.{Holds, step-start}
+use Rattle.campaign.proofs.Runs.{start-done, run-holds, run-each, run-asked}
+
+module _ {p : Plan} {s₀ s : CampaignRecord} {run : List Made} (o : Sound p) (holds : Holds p s₀ run s) where
+  -- used and unused numbers together are all numbers
+  balances : (places : List ℕ) → drawn p run places + unused p run places ≡ total (p .cells) places
+  unfolding unused
+  balances places =
+      ap (λ (x : ℕ). x + unused p run places) (holds .spent (λ a. total a places))
+      ∙ sym (sum-add (p .denominator) _ _)
+      ∙ sum-ext (p .denominator) _ _ (λ d l. test-parts (used run d) _)
+      ∙ planned-sum o places
+
+  -- m times a number, added up over the draw numbers
+  m-times : (c : ℕ) → accepted run * c ≡ sumTo (p .denominator) (λ d. cond (used run d) c 0)
+  m-times c =
+      ap (λ (x : ℕ). x * c) (holds .spent (λ a. 1)) ∙ mul-comm _ c ∙ sym (sum-mul (p .denominator) c _)
+      ∙ sum-ext (p .denominator) _ _ (λ d l. mul-comm c _ ∙ sym (test-times (used run d) c))
+
+  module _ (places : List ℕ) (m : Member places (heldTo (p .rows) (p .columns))) where
+    bounded : (accepted run * down (p .denominator) (total (p .cells) places) ≤ drawn p run places)
+        × (drawn p run places ≤ accepted run * up (p .denominator) (total (p .cells) places))
+    bounded =
+        let e = total (p .cells) places in
+        rw (m-times (down (p .denominator) e), m-times (up (p .denominator) e), holds .spent (λ a. total a places)) (
+          sum-le (p .denominator) _ _ (λ d l. test-le (used run d) (array-entry o l places m .0)),
+          sum-le (p .denominator) _ _ (λ d l. test-le (used run d) (array-entry o l places m .1)),
+        )
+
+  all-used : ((d : ℕ) → d < p .denominator → used run d ≡ true) → (places : List ℕ) → drawn p run places ≡ total (p .cells) places
+  unfolding unused
+  all-used every places =
+      let none : unused p run places ≡ 0 = sum-ext (p .denominator) _ (λ d. 0) (λ d l. rw (every d l)) ∙ sum-zero (p .denominator) in
+      omega (arith, balances places)
+
+pub claim : Claim
+claim b s₀ l o room =
+    let plan = sound b o in
+    let first = step-start (decode b) s₀ room in
+    let holds = run-holds b o s₀ room first l in
+    record {
+      start = start-done b o s₀ room;
+      asked = run-asked b _ l;
+      each = run-each b o s₀ room first l;
+      balance = balances plan holds;
+      bounds = bounded plan holds;
+      complete = all-used plan holds;
+      after-list = holds .claim;
+    }

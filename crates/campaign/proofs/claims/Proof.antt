@@ -1,0 +1,9 @@
+use Rattle.campaign.proofs.Campaigns.{claim}
+use Rattle.campaign.proofs.claims.Statement.{statement}
+use Rattle.campaign.proofs.claims.Tie as tie
+
+returns : tie.Need-returns
+returns c = claim
+
+pub claims-spec : {M : Type 1} → statement M
+claims-spec = tie.close (tie.spec returns)

@@ -1,0 +1,34 @@
+// The bits of a campaign record: number d in bit d mod 8 of byte d / 8.
+ghost use mathlib.Core.Path.{_≡_};
+ghost use Prim.Native.Nat.{_+_, _*_, _/_, _%_, _^_, _<_, _≤_};
+ghost use lib.ListN.{length, getD, set};
+ghost use Rattle.campaign.specs.Record.{bitOf};
+ghost use Rattle.campaign.specs.Parts.{bitsSet};
+
+// Bit d, 0 or 1.
+pub fn bit(bits: &[u8], d: usize) -> u32
+    requires { ⌜ d < 8 * length (now bits) ⌝ }
+    ensures { λ r. ⌜ r ≡ bitOf (now (bits .entry)) d ⌝ }
+{
+    ((bits[d / 8] as u32) >> ((d % 8) as u32)) % 2
+}
+
+// How many of `count` bits from `from` on are set.
+pub fn bits_set(bits: &[u8], from: usize, count: usize) -> u32
+    requires { ⌜ (from ≤ 65535) × (count ≤ 65535) × (from + count ≤ 8 * length (now bits)) ⌝ }
+    ensures { λ r. ⌜ r ≡ bitsSet (now (bits .entry)) from count ⌝ }
+{
+    let mut sum: u32 = 0;
+    for j in 0..count {
+        sum = sum + bit(bits, from + j);
+    }
+    sum
+}
+
+// Sets bit d, which is not set.
+pub fn set_bit(bits: &mut [u8], d: usize)
+    requires { ⌜ (d < 8 * length (now bits)) × (bitOf (now bits) d ≡ 0) ⌝ }
+    ensures { λ _. ⌜ now (bits .exit) ≡ set (now (bits .entry)) (d / 8) (getD (now (bits .entry)) (d / 8) 0 + 2 ^ (d % 8)) ⌝ }
+{
+    bits[d / 8] = bits[d / 8] + (1u8 << ((d % 8) as u32));
+}

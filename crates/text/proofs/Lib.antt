@@ -1,0 +1,9 @@
+pub mod Examples
+pub mod Numbers
+pub mod Decimals
+pub mod Writes
+pub mod Lines
+pub mod Scans
+pub mod Lengths
+pub mod Answers
+pub mod Outputs

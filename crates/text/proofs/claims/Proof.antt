@@ -1,0 +1,10 @@
+-- `text::claims` states what proofs/Lengths.antt proves.
+use Rattle.text.proofs.Lengths.{listing-length}
+use Rattle.text.proofs.claims.Statement.{statement}
+use Rattle.text.proofs.claims.Tie as tie
+
+returns : tie.Need-returns
+returns c b bytes laid = listing-length b laid bytes
+
+pub claims-spec : {M : Type 1} → statement M
+claims-spec = tie.close (tie.spec returns)

@@ -1,0 +1,137 @@
+use mathlib.Core.Logic.{⊎-elim}
+use Prim.Native.Nat.{_-_}
+use lib.ListN.{length}
+use Rattle.text.proofs.Scans.{Scanned, scanned-none, digit-test, scanned-room, scanned-scaled, scanned-same, count-fits, too-long, too-large, other-byte, too-few, accepted-text, scanned-digit, scanned-gap}
+use borrow.Author.Needs.{needs}
+use Rattle.text.proofs.parse.parse.Statement.{statement}
+use Rattle.text.proofs.parse.parse.Tie as tie
+
+abbrev Inv-loop : tie.InvT-loop
+Inv-loop text numbers₀ count₀ reading₀ i₀ numbers count reading i = Scanned text i reading count numbers
+
+abbrev μ-loop : tie.MeasureT-loop
+μ-loop text numbers₀ count₀ reading₀ i₀ numbers count reading i = length text - i
+
+refused-requires : tie.Need-refused-requires Inv-loop μ-loop
+refused-requires c κs = search needs
+
+returns : tie.Need-returns Inv-loop μ-loop
+returns c = too-long _ _ (c .refused .ensures) (search needs)
+
+loop-holds : tie.Need-loop-holds Inv-loop μ-loop
+loop-holds c = search (needs, scanned-none)
+
+shared-slice-read-b : tie.Need-shared-slice-read-b Inv-loop μ-loop
+shared-slice-read-b c = search needs
+
+is-digit-requires : tie.Need-is-digit-requires Inv-loop μ-loop
+is-digit-requires c κs = search needs
+
+mul-grown : tie.Need-mul-grown Inv-loop μ-loop
+mul-grown c = search (needs, scanned-scaled)
+
+array-read-grown : tie.Need-array-read-grown Inv-loop μ-loop
+array-read-grown c = search (needs, scanned-room)
+
+grown-requires : tie.Need-grown-requires Inv-loop μ-loop
+grown-requires c κs = search (needs, digit-test)
+
+refused-requires-2 : tie.Need-refused-requires-2 Inv-loop μ-loop
+refused-requires-2 c κs = search needs
+
+returns-2 : tie.Need-returns-2 Inv-loop μ-loop
+returns-2 c =
+    let test = c .before .before .before .before in
+    let turn = test .before .before in
+    too-large (turn .before .loop .inv) (turn .loop-test .taken) _ (test .is-digit .ensures) (c .before .before .before .if2 .taken) _ (c .before .before .grown .ensures) _ (c .refused2 .ensures) (search needs)
+
+cast-numbers : tie.Need-cast-numbers Inv-loop μ-loop
+cast-numbers c = search needs
+
+mul-numbers : tie.Need-mul-numbers Inv-loop μ-loop
+mul-numbers c = search (needs, scanned-scaled)
+
+array-write-numbers : tie.Need-array-write-numbers Inv-loop μ-loop
+array-write-numbers c = search (needs, scanned-room)
+
+is-gap-requires : tie.Need-is-gap-requires Inv-loop μ-loop
+is-gap-requires c κs = search needs
+
+refused-requires-3 : tie.Need-refused-requires-3 Inv-loop μ-loop
+refused-requires-3 c κs = search needs
+
+returns-3 : tie.Need-returns-3 Inv-loop μ-loop
+returns-3 c = search (needs, other-byte)
+
+size-requires : tie.Need-size-requires Inv-loop μ-loop
+size-requires c κs = search needs
+
+add-count : tie.Need-add-count Inv-loop μ-loop
+add-count c = search (needs, count-fits)
+
+add-i : tie.Need-add-i Inv-loop μ-loop
+add-i c = search needs
+
+loop-less : tie.Need-loop-less Inv-loop μ-loop
+loop-less c = search needs
+
+loop-again : tie.Need-loop-again Inv-loop μ-loop
+loop-again c =
+    let turn = c .before .before .before in
+    let w = turn .before .loop .inv in
+    let l = turn .loop-test .taken in
+    let d = c .before .is-digit .ensures in
+    ⊎-elim
+    (λ v. scanned-same (scanned-digit w l _ d (v .0 .taken) _ (v .1 .ensures) (v .2 .left)) (v .3) (v .4) (v .5))
+    (λ v. scanned-same (scanned-gap w l _ d (v .0 .left) _ (v .1 .ensures) (v .2 .left) _ (v .3 .ensures)) (v .4) (v .5) (v .6))
+    (c .if2 .came)
+
+size-requires-2 : tie.Need-size-requires-2 Inv-loop μ-loop
+size-requires-2 c κs = search needs
+
+add-count-2 : tie.Need-add-count-2 Inv-loop μ-loop
+add-count-2 c = search (needs, count-fits)
+
+refused-requires-4 : tie.Need-refused-requires-4 Inv-loop μ-loop
+refused-requires-4 c κs = search needs
+
+returns-4 : tie.Need-returns-4 Inv-loop μ-loop
+returns-4 c =
+    let end = c .before .before .before in
+    too-few (end .before .loop .inv) (end .loop-test .left) _ (c .before .before .size2 .ensures) _ (c .refused4 .ensures) (search needs)
+
+returns-5 : tie.Need-returns-5 Inv-loop μ-loop
+returns-5 c = search (needs, accepted-text)
+
+pub parse-spec : {M : Type 1} → statement M
+parse-spec =
+    tie.close
+    (tie.spec
+    Inv-loop
+    μ-loop
+    refused-requires
+    returns
+    loop-holds
+    shared-slice-read-b
+    is-digit-requires
+    mul-grown
+    array-read-grown
+    grown-requires
+    refused-requires-2
+    returns-2
+    cast-numbers
+    mul-numbers
+    array-write-numbers
+    is-gap-requires
+    refused-requires-3
+    returns-3
+    size-requires
+    add-count
+    add-i
+    loop-less
+    loop-again
+    size-requires-2
+    add-count-2
+    refused-requires-4
+    returns-4
+    returns-5)

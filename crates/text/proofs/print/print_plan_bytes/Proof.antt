@@ -1,0 +1,18 @@
+use Rattle.text.proofs.Lengths.{listing-room}
+use borrow.Author.Needs.{needs}
+use Rattle.text.proofs.print.print_plan_bytes.Statement.{statement}
+use Rattle.text.proofs.print.print_plan_bytes.Tie as tie
+
+print-lines-requires : tie.Need-print-lines-requires
+print-lines-requires c κs =
+    let start = c .before .before .before in
+    listing-room _ (start .pre .0) (λ k. c .before .before .shared-slice-known .given k .fits) _ _ (start .pre .1)
+
+same-length : tie.Need-same-length
+same-length c = search needs
+
+returns : tie.Need-returns
+returns c = search needs
+
+pub print-plan-bytes-spec : {M : Type 1} → statement M
+print-plan-bytes-spec = tie.close (tie.spec print-lines-requires same-length returns)
