@@ -1,6 +1,7 @@
 /* Controlled selection: roundings, plans, draws and campaigns.
  *
- * Every call checks what it is lent and returns 0, or the number of the lowest refusal that applies; a refusal changes no buffer:
+ * Every call checks what it is lent. It returns 0, and lufodimi_plan the plan's length, or the number of the lowest refusal that applies;
+ * a refusal changes no buffer:
  *    1  rows or columns not from 1 to 12
  *    2  denominator not from 1 to 65,535
  *    3  the cells are not rows times columns many

@@ -13,3 +13,4 @@ pub mod Widths
 pub mod Counting
 pub mod Fitting
 pub mod Calling
+pub mod Walks

@@ -9,6 +9,7 @@ ghost use Rattle.stored.specs.Open.{drawnArray};
 ghost use Rattle.campaign.specs.Record.{campaignAnswer, taking};
 ghost use Rattle.campaign.specs.Calls.{recordOf, Leaves};
 ghost use Rattle.campaign.specs.Parts.{orRefused, Addable};
+use crate::Record;
 use crate::Step;
 use crate::bitset::bit;
 use crate::bitset::set_bit;
@@ -111,20 +112,20 @@ pub fn draw_step(
 pub fn campaign_draw(
     plan: &[u8],
     number: u32,
-    taken: &mut u32,
+    record: &mut Record,
     bits: &mut [u8],
     tally: &mut [u32],
     counts: &mut [u16],
 ) -> Answer
     ensures answer { λ r. ⌜ r ≡ campaignAnswer (now (plan .entry)) number
-        (recordOf (now (taken .entry)) (now (bits .entry)) (now (tally .entry))) (length (now (counts .entry))) ⌝ }
-    ensures left { λ r. ⌜ recordOf (now (taken .exit)) (now (bits .exit)) (now (tally .exit))
-        ≡ after r (taking (decode (now (plan .entry))) number (recordOf (now (taken .entry)) (now (bits .entry)) (now (tally .entry))))
-        (recordOf (now (taken .entry)) (now (bits .entry)) (now (tally .entry))) ⌝ }
+        (recordOf (now («record» .entry) .taken) (now (bits .entry)) (now (tally .entry))) (length (now (counts .entry))) ⌝ }
+    ensures left { λ r. ⌜ recordOf (now («record» .exit) .taken) (now (bits .exit)) (now (tally .exit))
+        ≡ after r (taking (decode (now (plan .entry))) number (recordOf (now («record» .entry) .taken) (now (bits .entry)) (now (tally .entry))))
+        (recordOf (now («record» .entry) .taken) (now (bits .entry)) (now (tally .entry))) ⌝ }
     ensures array { λ r. ⌜ now (counts .exit)
         ≡ after r (written (drawnArray (now (plan .entry)) number) (now (counts .entry))) (now (counts .entry)) ⌝ }
 {
-    let step = draw_step(plan, number, *taken, bits, tally, counts);
-    *taken = step.taken;
+    let step = draw_step(plan, number, record.taken, bits, tally, counts);
+    record.taken = step.taken;
     step.answer
 }

@@ -1,5 +1,4 @@
 // Campaigns: a start, draws of numbers that are not yet taken, and what every run of them is held to.
-ghost use mathlib.Core.Path.{_≡_};
 ghost use Rattle.campaign.specs.Claim.{Claim};
 
 mod bitset;
@@ -11,15 +10,9 @@ pub mod start;
 use table::Answer;
 
 // The part of a campaign record that is no buffer: the count of numbers taken.
+#[repr(C)]
 pub struct Record {
     pub taken: u32,
-}
-
-// Puts a count into the caller's record, in place.
-pub fn store(record: &mut Record, taken: u32)
-    ensures { λ _. ⌜ now («record» .exit) .taken ≡ taken ⌝ }
-{
-    record.taken = taken;
 }
 
 // What a call answers, and the count as it leaves it.

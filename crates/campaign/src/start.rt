@@ -6,6 +6,7 @@ ghost use Rattle.table.specs.Answer.{after, written};
 ghost use Rattle.stored.specs.Form.{decode};
 ghost use Rattle.campaign.specs.Record.{startAnswer, started};
 ghost use Rattle.campaign.specs.Calls.{recordOf, Leaves};
+use crate::Record;
 use crate::Step;
 use crate::room::open_for;
 use stored::Opened;
@@ -57,13 +58,13 @@ pub fn start_step(plan: &[u8], taken: u32, bits: &mut [u8], tally: &mut [u32]) -
 }
 
 // Clears the record, or returns the lowest refusal that applies.
-pub fn start(plan: &[u8], taken: &mut u32, bits: &mut [u8], tally: &mut [u32]) -> Answer
-    ensures answer { λ r. ⌜ r ≡ startAnswer (now (plan .entry)) (recordOf (now (taken .entry)) (now (bits .entry)) (now (tally .entry))) ⌝ }
-    ensures left { λ r. ⌜ recordOf (now (taken .exit)) (now (bits .exit)) (now (tally .exit))
-        ≡ after r (started (decode (now (plan .entry))) (recordOf (now (taken .entry)) (now (bits .entry)) (now (tally .entry))))
-        (recordOf (now (taken .entry)) (now (bits .entry)) (now (tally .entry))) ⌝ }
+pub fn start(plan: &[u8], record: &mut Record, bits: &mut [u8], tally: &mut [u32]) -> Answer
+    ensures answer { λ r. ⌜ r ≡ startAnswer (now (plan .entry)) (recordOf (now («record» .entry) .taken) (now (bits .entry)) (now (tally .entry))) ⌝ }
+    ensures left { λ r. ⌜ recordOf (now («record» .exit) .taken) (now (bits .exit)) (now (tally .exit))
+        ≡ after r (started (decode (now (plan .entry))) (recordOf (now («record» .entry) .taken) (now (bits .entry)) (now (tally .entry))))
+        (recordOf (now («record» .entry) .taken) (now (bits .entry)) (now (tally .entry))) ⌝ }
 {
-    let step = start_step(plan, *taken, bits, tally);
-    *taken = step.taken;
+    let step = start_step(plan, record.taken, bits, tally);
+    record.taken = step.taken;
     step.answer
 }

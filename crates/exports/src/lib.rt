@@ -9,6 +9,7 @@ ghost use Rattle.stored.specs.Form.{decode};
 ghost use Rattle.campaign.specs.Record.{startAnswer, started, campaignAnswer, taking};
 ghost use Rattle.campaign.specs.Calls.{recordOf};
 ghost use Rattle.stored.specs.Open.{openAnswer, openedNumber, drawAnswer, drawnArray};
+use campaign::Record;
 
 // Writes the first controlled rounding of a table: 0, or the refusal's number.
 #[no_mangle]
@@ -64,21 +65,21 @@ pub extern "C" fn lufodimi_draw(plan: &[u8], number: u32, counts: &mut [u16]) ->
     table::answer_number(answer)
 }
 
-// Starts a campaign: 0, or the refusal's number. The count of numbers taken is the record's only number.
+// Starts a campaign: 0, or the refusal's number.
 #[no_mangle]
 pub extern "C" fn lufodimi_start(
     plan: &[u8],
-    taken: &mut u32,
+    record: &mut Record,
     bits: &mut [u8],
     tally: &mut [u32],
 ) -> u32
-    ensures number { λ n. ⌜ n ≡ answerNumber (startAnswer (now (plan .entry)) (recordOf (now (taken .entry)) (now (bits .entry)) (now (tally .entry)))) ⌝ }
-    ensures left { λ _. ⌜ recordOf (now (taken .exit)) (now (bits .exit)) (now (tally .exit))
-        ≡ after (startAnswer (now (plan .entry)) (recordOf (now (taken .entry)) (now (bits .entry)) (now (tally .entry))))
-        (started (decode (now (plan .entry))) (recordOf (now (taken .entry)) (now (bits .entry)) (now (tally .entry))))
-        (recordOf (now (taken .entry)) (now (bits .entry)) (now (tally .entry))) ⌝ }
+    ensures number { λ n. ⌜ n ≡ answerNumber (startAnswer (now (plan .entry)) (recordOf (now («record» .entry) .taken) (now (bits .entry)) (now (tally .entry)))) ⌝ }
+    ensures left { λ _. ⌜ recordOf (now («record» .exit) .taken) (now (bits .exit)) (now (tally .exit))
+        ≡ after (startAnswer (now (plan .entry)) (recordOf (now («record» .entry) .taken) (now (bits .entry)) (now (tally .entry))))
+        (started (decode (now (plan .entry))) (recordOf (now («record» .entry) .taken) (now (bits .entry)) (now (tally .entry))))
+        (recordOf (now («record» .entry) .taken) (now (bits .entry)) (now (tally .entry))) ⌝ }
 {
-    let answer = campaign::start::start(plan, taken, bits, tally);
+    let answer = campaign::start::start(plan, record, bits, tally);
     table::answer_number(answer)
 }
 
@@ -87,21 +88,21 @@ pub extern "C" fn lufodimi_start(
 pub extern "C" fn lufodimi_campaign_draw(
     plan: &[u8],
     number: u32,
-    taken: &mut u32,
+    record: &mut Record,
     bits: &mut [u8],
     tally: &mut [u32],
     counts: &mut [u16],
 ) -> u32
     ensures number { λ n. ⌜ n ≡ answerNumber (campaignAnswer (now (plan .entry)) number
-        (recordOf (now (taken .entry)) (now (bits .entry)) (now (tally .entry))) (length (now (counts .entry)))) ⌝ }
-    ensures left { λ _. ⌜ recordOf (now (taken .exit)) (now (bits .exit)) (now (tally .exit))
-        ≡ after (campaignAnswer (now (plan .entry)) number (recordOf (now (taken .entry)) (now (bits .entry)) (now (tally .entry))) (length (now (counts .entry))))
-        (taking (decode (now (plan .entry))) number (recordOf (now (taken .entry)) (now (bits .entry)) (now (tally .entry))))
-        (recordOf (now (taken .entry)) (now (bits .entry)) (now (tally .entry))) ⌝ }
+        (recordOf (now («record» .entry) .taken) (now (bits .entry)) (now (tally .entry))) (length (now (counts .entry)))) ⌝ }
+    ensures left { λ _. ⌜ recordOf (now («record» .exit) .taken) (now (bits .exit)) (now (tally .exit))
+        ≡ after (campaignAnswer (now (plan .entry)) number (recordOf (now («record» .entry) .taken) (now (bits .entry)) (now (tally .entry))) (length (now (counts .entry))))
+        (taking (decode (now (plan .entry))) number (recordOf (now («record» .entry) .taken) (now (bits .entry)) (now (tally .entry))))
+        (recordOf (now («record» .entry) .taken) (now (bits .entry)) (now (tally .entry))) ⌝ }
     ensures array { λ _. ⌜ now (counts .exit)
-        ≡ after (campaignAnswer (now (plan .entry)) number (recordOf (now (taken .entry)) (now (bits .entry)) (now (tally .entry))) (length (now (counts .entry))))
+        ≡ after (campaignAnswer (now (plan .entry)) number (recordOf (now («record» .entry) .taken) (now (bits .entry)) (now (tally .entry))) (length (now (counts .entry))))
         (written (drawnArray (now (plan .entry)) number) (now (counts .entry))) (now (counts .entry)) ⌝ }
 {
-    let answer = campaign::draw::campaign_draw(plan, number, taken, bits, tally, counts);
+    let answer = campaign::draw::campaign_draw(plan, number, record, bits, tally, counts);
     table::answer_number(answer)
 }
