@@ -6,6 +6,9 @@
 
 enum { ROWS = 2, COLUMNS = 2, CELLS = ROWS * COLUMNS, DENOMINATOR = 10 };
 
+/* The refusal of a number that is taken. */
+enum { NUMBER_TAKEN = 10 };
+
 /* Ends the program if a call was refused. */
 static void expect_done(const char *call, uint32_t answer)
 {
@@ -37,8 +40,11 @@ int main(void)
         expect_done("draw", lufodimi_campaign_draw(plan, length, number, &record, bits, sizeof bits, tally, CELLS, counts, CELLS));
         printf("number %u: %u %u %u %u\n", (unsigned)number, counts[0], counts[1], counts[2], counts[3]);
     }
-    printf("%u numbers taken; number 3 again: refused %u\n", (unsigned)record.taken,
-           (unsigned)lufodimi_campaign_draw(plan, length, 3, &record, bits, sizeof bits, tally, CELLS, counts, CELLS));
+    const uint32_t again = lufodimi_campaign_draw(plan, length, 3, &record, bits, sizeof bits, tally, CELLS, counts, CELLS);
+    printf("%u numbers taken; number 3 again: %u\n", (unsigned)record.taken, (unsigned)again);
+    if (again != NUMBER_TAKEN) {
+        return EXIT_FAILURE;
+    }
     for (int cell = 0; cell < CELLS; cell++) {
         printf("cell %d: drawn %u, planned %u\n", cell + 1, (unsigned)tally[cell], (unsigned)cells[cell]);
     }

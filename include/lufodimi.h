@@ -44,7 +44,8 @@ uint32_t lufodimi_plan(uint32_t rows, uint32_t columns, uint32_t denominator,
                        const uint32_t *cells, size_t cells_length,
                        uint8_t *plan, size_t plan_length);
 
-/* Opens a stored plan, whoever made it. It writes nothing. Refusals 5, 6. */
+/* Opens a stored plan, whoever made it. It writes nothing. Refusals 5, 6. Of a plan that opens, byte 2 is the number of rows and byte 3
+ * that of columns, and bytes 8 to 11, lowest first, are the denominator. */
 uint32_t lufodimi_open(const uint8_t *plan, size_t plan_length);
 
 /* Writes the array that belongs to a draw number. Refusals 5, 6, 7, 8. */

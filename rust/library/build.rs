@@ -1,4 +1,5 @@
-//! Links `libexports.a` from the folder named by LUFODIMI_LIB_DIR.
+//! Links `libexports.a` from the folder that LUFODIMI_LIB_DIR names, or else from the
+//! repository's `target/staticlib`.
 
 use std::env;
 use std::path::{Path, PathBuf};
@@ -14,7 +15,7 @@ fn main() {
     let archive = folder.join("libexports.a");
     assert!(
         archive.is_file(),
-        "there is no {}; set {VARIABLE}",
+        "there is no {}: run `rt staticlib exports` in the repository, or set {VARIABLE}",
         archive.display()
     );
     println!("cargo:rerun-if-env-changed={VARIABLE}");

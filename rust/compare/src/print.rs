@@ -1,6 +1,6 @@
 //! The printing program, run on texts.
 
-use compare::cases::{Call, Calls, Difference, Kind, Named};
+use compare::cases::{require, Call, Calls, Difference, Kind, Named};
 use std::io::Write;
 use std::process::{Command, Stdio};
 use tables::{random_table, Generator};
@@ -66,11 +66,22 @@ fn run_program(input: &[u8]) -> Vec<u8> {
     run.wait_with_output().expect("it ends").stdout
 }
 
-fn compare_text(calls: &mut Calls, input: &[u8]) -> Result<(), Difference> {
-    calls.compare(&Print {
+fn compare_text(calls: &mut Calls, input: &[u8]) -> Result<Print, Difference> {
+    let print = Print {
         input: input.to_vec(),
         output: Vec::new(),
-    })?;
+    };
+    Ok(calls.compare(&print)?.after)
+}
+
+/// Compares texts that are all refused, or all planned.
+fn compare_texts(calls: &mut Calls, texts: &[&[u8]], refused: bool) -> Result<(), Difference> {
+    for text in texts {
+        let print = compare_text(calls, text)?;
+        require(print.output.starts_with(b"refused ") == refused, || {
+            format!("refused should be {refused}: {print:?}\n")
+        })?;
+    }
     Ok(())
 }
 
@@ -87,7 +98,7 @@ fn tables_as_text(generator: &mut Generator, calls: &mut Calls) -> Result<(), Di
         text.extend(number.to_string().bytes());
         text.push(if generator.below(5) == 0 { 10 } else { 32 });
     }
-    compare_text(calls, &text)
+    compare_text(calls, &text).map(drop)
 }
 
 /// A text of few bytes, mostly digits and gaps.
@@ -99,11 +110,11 @@ fn random_text(generator: &mut Generator, calls: &mut Calls) -> Result<(), Diffe
     let text: Vec<u8> = (0..length)
         .map(|_| BYTES[generator.below(known as u64) as usize])
         .collect();
-    compare_text(calls, &text)
+    compare_text(calls, &text).map(drop)
 }
 
 fn refused_texts(calls: &mut Calls) -> Result<(), Difference> {
-    let texts: [&[u8]; 16] = [
+    let texts: [&[u8]; 17] = [
         b"",
         b" \n",
         b"2 2",
@@ -111,6 +122,7 @@ fn refused_texts(calls: &mut Calls) -> Result<(), Difference> {
         b"1 1 1 0\r\n",
         b"1 1 1 -1",
         b"1 1 1 0\0",
+        b"1 1 1 4294967295",
         b"1 1 1 4294967296",
         b"4294967296 1 1 0",
         b"0 1 1",
@@ -121,19 +133,18 @@ fn refused_texts(calls: &mut Calls) -> Result<(), Difference> {
         b"2 2 1 0 0 0",
         b"1 1 1 1001",
     ];
-    texts.iter().try_for_each(|text| compare_text(calls, text))
+    compare_texts(calls, &texts, true)
 }
 
 fn accepted_texts(calls: &mut Calls) -> Result<(), Difference> {
-    let texts: [&[u8]; 6] = [
+    let texts: [&[u8]; 5] = [
         b"2 2 10 3 4 5 6",
         b"\n\n  2 2\n10 3 4 5 6 \n",
         b"002 2 0000000000010 3 04 5 6",
         b"1 1 3 2",
-        b"1 1 1 4294967295",
         b"1 2 4 4 6\n",
     ];
-    texts.iter().try_for_each(|text| compare_text(calls, text))
+    compare_texts(calls, &texts, false)
 }
 
 /// 4,096 bytes are read, and one more is refused.

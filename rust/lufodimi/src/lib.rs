@@ -11,7 +11,7 @@
 //!
 //! ```
 //! let plan = lufodimi::plan(2, 2, 10, &[3, 4, 5, 6])?;
-//! let mut record = lufodimi::start(&plan, 10, 4)?;
+//! let mut record = lufodimi::start(&plan)?;
 //! let mut counts = [0; 4];
 //! for number in 0..10 {
 //!     lufodimi::campaign_draw(&plan, number, &mut record, &mut counts)?;
@@ -70,13 +70,30 @@ pub fn plan(rows: u32, columns: u32, denominator: u32, cells: &[u32]) -> Result<
     Ok(plan)
 }
 
-/// Whether a stored plan opens, whoever made it.
+/// The sizes of a plan.
+#[derive(Clone, Copy, Debug, PartialEq, Eq)]
+pub struct Sizes {
+    pub rows: usize,
+    pub columns: usize,
+    pub denominator: u32,
+}
+
+/// Opens a stored plan, whoever made it, and tells its sizes.
 ///
 /// ```
+/// let plan = lufodimi::plan(2, 3, 10, &[1, 2, 3, 4, 5, 6])?;
+/// let sizes = lufodimi::open(&plan)?;
+/// assert_eq!((sizes.rows, sizes.columns, sizes.denominator), (2, 3, 10));
 /// assert_eq!(lufodimi::open(&[]), Err(lufodimi::Refusal::Layout));
+/// # Ok::<(), lufodimi::Refusal>(())
 /// ```
-pub fn open(plan: &[u8]) -> Result<(), Refusal> {
-    done(library::open(plan))
+pub fn open(plan: &[u8]) -> Result<Sizes, Refusal> {
+    done(library::open(plan))?;
+    Ok(Sizes {
+        rows: plan[2].into(),
+        columns: plan[3].into(),
+        denominator: u32::from_le_bytes([plan[8], plan[9], plan[10], plan[11]]),
+    })
 }
 
 /// Writes the array that belongs to a draw number at the start of `counts`.
@@ -101,19 +118,20 @@ pub struct Record {
     pub tally: Vec<u32>,
 }
 
-/// Starts a campaign on a plan with this denominator and so many cells.
+/// Starts a campaign on a plan: no number is taken.
 ///
 /// ```
 /// let plan = lufodimi::plan(1, 1, 3, &[2])?;
-/// assert_eq!(lufodimi::start(&plan, 3, 1)?.taken, 0);
-/// assert_eq!(lufodimi::start(&plan, 3, 0), Err(lufodimi::Refusal::Buffer));
+/// let record = lufodimi::start(&plan)?;
+/// assert_eq!((record.taken, record.bits, record.tally), (0, vec![0], vec![0]));
 /// # Ok::<(), lufodimi::Refusal>(())
 /// ```
-pub fn start(plan: &[u8], denominator: u32, cells: usize) -> Result<Record, Refusal> {
+pub fn start(plan: &[u8]) -> Result<Record, Refusal> {
+    let sizes = open(plan)?;
     let mut record = Record {
         taken: 0,
-        bits: vec![0; denominator.div_ceil(8) as usize],
-        tally: vec![0; cells],
+        bits: vec![0; sizes.denominator.div_ceil(8) as usize],
+        tally: vec![0; sizes.rows * sizes.columns],
     };
     done(library::start(
         plan,
@@ -128,7 +146,7 @@ pub fn start(plan: &[u8], denominator: u32, cells: usize) -> Result<Record, Refu
 ///
 /// ```
 /// let plan = lufodimi::plan(1, 1, 1, &[1])?;
-/// let mut record = lufodimi::start(&plan, 1, 1)?;
+/// let mut record = lufodimi::start(&plan)?;
 /// let mut counts = [0];
 /// lufodimi::campaign_draw(&plan, 0, &mut record, &mut counts)?;
 /// let again = lufodimi::campaign_draw(&plan, 0, &mut record, &mut counts);

@@ -1,27 +1,38 @@
 use std::error::Error;
 use std::fmt::{self, Display, Formatter};
 
-/// Why a call refused its input. A refusal changes no buffer.
+/// Why a call refused its input, with the number that the library returns for it. A
+/// refusal changes no buffer.
 #[derive(Clone, Copy, Debug, PartialEq, Eq)]
 pub enum Refusal {
-    Size,
-    Denominator,
-    Cells,
-    Cell,
-    Layout,
-    Content,
-    Buffer,
-    Number,
-    Record,
-    Taken,
+    /// Rows or columns not from 1 to 12.
+    Size = 1,
+    /// The denominator not from 1 to 65,535.
+    Denominator = 2,
+    /// Not as many cells as rows times columns.
+    CellCount = 3,
+    /// A cell above 1000 times the denominator.
+    LargeCell = 4,
+    /// A stored plan whose form, zero field, sizes, offsets or length are wrong.
+    Layout = 5,
+    /// A stored plan that does not meet another condition of opening.
+    Content = 6,
+    /// A lent buffer shorter than its result or record.
+    Buffer = 7,
+    /// A draw number not below the denominator.
+    Number = 8,
+    /// A record that does not fit the plan.
+    Record = 9,
+    /// A number that is taken.
+    Taken = 10,
 }
 
-/// The refusals in the order of their numbers, from 1 on.
+/// The refusals in the order of their numbers.
 const REFUSALS: [Refusal; 10] = [
     Refusal::Size,
     Refusal::Denominator,
-    Refusal::Cells,
-    Refusal::Cell,
+    Refusal::CellCount,
+    Refusal::LargeCell,
     Refusal::Layout,
     Refusal::Content,
     Refusal::Buffer,
@@ -37,7 +48,7 @@ impl Refusal {
     /// assert_eq!(lufodimi::Refusal::Taken.number(), 10);
     /// ```
     pub fn number(self) -> u32 {
-        self as u32 + 1
+        self as u32
     }
 
     /// The refusal with this number.
@@ -51,8 +62,8 @@ impl Display for Refusal {
         formatter.write_str(match self {
             Refusal::Size => "The table has not from 1 to 12 rows and from 1 to 12 columns.",
             Refusal::Denominator => "The denominator is not from 1 to 65,535.",
-            Refusal::Cells => "The cells are not as many as rows times columns.",
-            Refusal::Cell => "A cell is above 1000 times the denominator.",
+            Refusal::CellCount => "The cells are not as many as rows times columns.",
+            Refusal::LargeCell => "A cell is above 1000 times the denominator.",
             Refusal::Layout => "The bytes are not laid out as a stored plan.",
             Refusal::Content => "The stored plan does not meet the conditions of opening.",
             Refusal::Buffer => "A buffer is shorter than its result or record.",
@@ -64,3 +75,21 @@ impl Display for Refusal {
 }
 
 impl Error for Refusal {}
+
+#[cfg(test)]
+mod tests {
+    use super::*;
+
+    #[test]
+    fn every_number_has_its_refusal_and_a_sentence() {
+        for number in 1..=10 {
+            let refusal = Refusal::of(number);
+            assert_eq!(refusal.number(), number);
+            let sentence = refusal.to_string();
+            assert!(
+                sentence.ends_with('.') && sentence.contains(' '),
+                "{sentence}"
+            );
+        }
+    }
+}

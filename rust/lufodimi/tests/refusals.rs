@@ -1,4 +1,4 @@
-//! Each refusal comes from the call that it belongs to, and says a sentence.
+//! Each refusal comes from the call that it belongs to.
 
 use lufodimi::{campaign_draw, draw, open, plan, round, start, Refusal};
 
@@ -32,12 +32,13 @@ fn plans_and_draws_are_refused_by_5_to_8() {
     assert_eq!(open(&plan), Err(Refusal::Content));
     plan.push(0);
     assert_eq!(open(&plan), Err(Refusal::Layout));
+    assert_eq!(start(&plan), Err(Refusal::Layout));
 }
 
 #[test]
 fn campaigns_are_refused_by_9_and_10() {
     let plan = small_plan();
-    let mut record = start(&plan, 10, 4).expect("the record is long enough");
+    let mut record = start(&plan).expect("the plan opens");
     let mut counts = [0; 4];
     assert_eq!(campaign_draw(&plan, 3, &mut record, &mut counts), Ok(()));
     assert_eq!(
@@ -49,10 +50,4 @@ fn campaigns_are_refused_by_9_and_10() {
         campaign_draw(&plan, 4, &mut record, &mut counts),
         Err(Refusal::Record)
     );
-}
-
-#[test]
-fn refusals_are_sentences() {
-    assert_eq!(Refusal::Taken.to_string(), "The number is taken.");
-    assert_eq!(Refusal::Size.number(), 1);
 }
