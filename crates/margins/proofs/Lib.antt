@@ -1,5 +1,4 @@
 mod Indicators
-mod Writes
 mod DoubleSums
 mod Members
 mod SetLoops
@@ -8,4 +7,4 @@ mod Paths
 mod Cuts
 mod Fixes
 mod Fills
-mod Answers
+mod FirstMatrices

@@ -7,6 +7,7 @@ use Rattle.table.specs.Lists.{sumTo}
 use Rattle.margins.specs.Set.{ind, on, has}
 use Rattle.margins.specs.Matrix.{at}
 
+-- for each place its bit, and 1 where it is free
 pub record Grid : Type 0 where
   pub bit : ℕ → ℕ → ℕ
   pub free : ℕ → ℕ → ℕ
@@ -26,6 +27,7 @@ pub record Places (up down one : List ℕ) : Type 0 where
   pub one-len : length one ≡ 13
   pub single : (p q : ℕ) → p < 13 → q < 13 → has up p q + has down q p + has one p q ≤ 1
 
+-- the sum of a row, and of a column
 unfoldable pub rowSum : Grid → ℕ → ℕ
 rowSum g p = sumTo 13 (λ q. g .bit p q)
 
@@ -95,6 +97,7 @@ pub record FreeOf (cap up : List ℕ) : Type 0 where
   pub len : length up ≡ 13
   pub is : (p q : ℕ) → p < 13 → q < 13 → has up p q ≡ at cap p q
 
+-- r is the 13 numbers
 pub record CopyOf (numbers r : List ℕ) : Type 0 where
   pub len : length r ≡ 13
   pub is : (j : ℕ) → j < 13 → getD r j 0 ≡ getD numbers j 0

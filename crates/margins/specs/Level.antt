@@ -6,7 +6,7 @@ use mathlib.Core.List.{List}
 use lib.ListN.{getD}
 use Rattle.margins.specs.Set.{ind, on, has, Via}
 
--- the rows of the levels 0 to k and the columns of those before k: a column of a level is had from a row of that level, and a row of the next from such a column
+-- the rows of the levels 0 to k and the columns of those before k: a column of a level is reached from a row of that level, and a row of the next from such a column
 pub record Levels (up down rows cols : List ℕ) (start k : ℕ) : Type 0 where
   pub first : (p : ℕ) → has rows 0 p ≡ ind p start
   pub row-small : (i : ℕ) → i ≤ k → getD rows i 0 < 8192

@@ -1,4 +1,4 @@
--- Matrices of 13 by 13 with given line sums, and the first of those of 0 and 1. Assumes nothing.
+-- Matrices of 13 by 13 with given line sums (a line is a row or a column), and the first of those of 0 and 1. Assumes nothing.
 use mathlib.Core.Path.{_≡_}
 use Prim.Native.Nat.{ℕ, _+_, _*_, _/_, _%_, _<_, _≤_}
 use mathlib.Core.List.{List}

@@ -39,6 +39,7 @@ pub record OneMore (up down up' down' : List ℕ) (row column : ℕ) : Type 0 wh
   pub in-row : (p : ℕ) → rowOnes down' p ≡ rowOnes down p + ind p row
   pub in-col : (q : ℕ) → colOnes down' q ≡ colOnes down q + ind q column
 
+-- one more along a path from row start to a column of ends; or the column is 13, nothing has changed and there is no path
 pub record Augmented (up down up' down' : List ℕ) (ends start column : ℕ) : Type 0 where
   pub bound : column ≤ 13
   pub done : column < 13 → (on ends column ≡ 1) × OneMore up down up' down' start column

@@ -6,6 +6,7 @@ use Prim.Native.Nat.{ℕ, _+_, _/_, _%_, _^_, _<_, _≤_, min, max}
 use lib.Dec.{eqb}
 use lib.ListN.{getD}
 
+-- a test as a number
 abbrev pub num : Bool → ℕ
 num true = 1
 num false = 0
@@ -22,29 +23,36 @@ on x i = x / 2 ^ i % 2
 abbrev pub has : List ℕ → ℕ → ℕ → ℕ
 has sets i j = on (getD sets i 0) j
 
+-- r has the one member i
 pub record Single (i r : ℕ) : Type 0 where
   pub value : r ≡ 2 ^ i
   pub small : r < 8192
   pub is : (j : ℕ) → on r j ≡ ind j i
 
+-- r is a member of x
 pub record Some (x r : ℕ) : Type 0 where
   pub below : r < 13
   pub is : on x r ≡ 1
 
+-- r is x without its member i
 pub record Without (x i r : ℕ) : Type 0 where
   pub less : r < x
   pub is : (j : ℕ) → on r j + ind j i ≡ on x j
 
+-- r is x with the new member i
 pub record With (x i r : ℕ) : Type 0 where
   pub is : (j : ℕ) → on r j ≡ on x j + ind j i
 
+-- r has the members of both
 pub record Meet (a b r : ℕ) : Type 0 where
   pub small : r ≤ b
   pub is : (j : ℕ) → on r j ≡ min (on a j) (on b j)
 
+-- r has the members of one or both
 pub record Join (a b r : ℕ) : Type 0 where
   pub is : (j : ℕ) → on r j ≡ max (on a j) (on b j)
 
+-- r is a without the members of its part b
 pub record Minus (a b r : ℕ) : Type 0 where
   pub small : r < 8192
   pub is : (j : ℕ) → on r j + on b j ≡ on a j

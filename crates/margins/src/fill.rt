@@ -35,7 +35,7 @@ pub fn fill_row(up: &mut [u32; 13], down: &mut [u32; 13], lack: &mut [u8; 13], r
     }
 }
 
-// As many more in each row as `more` says, and in each column as `lack` says, from the last row on.
+// As many more in each row as `more` says, and in each column as many as its `lack` falls by. The last row, that of the totals, comes first.
 pub fn fill(up: &mut [u32; 13], down: &mut [u32; 13], lack: &mut [u8; 13], more: &[u8; 13])
     requires { ⌜ Places (now up) (now down) (replicate 13 0) × ((length (now lack) ≡ 13)
         × Feasible (start (now up) (now down)) (λ p. rowSum (start (now up) (now down)) p + getD (now more) p 0) (λ q. colSum (start (now up) (now down)) q + getD (now lack) q 0)) ⌝ }

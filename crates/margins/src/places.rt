@@ -18,7 +18,7 @@ pub fn free_places(cap: &[u8; 169], up: &mut [u32; 13])
     }
 }
 
-// A copy. Its length is known, while that of what a reference shows is in no fact.
+// A copy of 13 numbers, which filling may change.
 pub fn copy_of(numbers: &[u8; 13]) -> [u8; 13]
     ensures { λ r. ⌜ CopyOf (now (numbers .entry)) r ⌝ }
 {

@@ -15,6 +15,7 @@ use crate::sets::union_of;
 use crate::sets::with;
 use crate::sets::without;
 
+// What a search finds: a column and its level, or column 13.
 pub struct Found {
     pub column: usize,
     pub level: usize,

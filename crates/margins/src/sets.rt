@@ -4,6 +4,7 @@ ghost use Prim.Native.Nat.{ℕ, _+_, _≤_, _<_};
 ghost use lib.ListN.{length};
 ghost use Rattle.margins.specs.Set.{on, Single, Some, Without, With, Meet, Join, Minus, Via, Picked, UnionOf, Nonzero};
 
+// The set of one member.
 pub fn single(i: usize) -> u32
     requires { ⌜ i < 13 ⌝ }
     ensures { λ r. ⌜ Single i r ⌝ }
@@ -27,6 +28,7 @@ pub fn some(x: u32) -> usize
     (31 - u32::leading_zeros(x)) as usize
 }
 
+// x without its member i.
 pub fn without(x: u32, i: usize) -> u32
     requires { ⌜ (i < 13) × (on x i ≡ 1) ⌝ }
     ensures { λ r. ⌜ Without x i r ⌝ }
@@ -34,6 +36,7 @@ pub fn without(x: u32, i: usize) -> u32
     x ^ single(i)
 }
 
+// x with the new member i.
 pub fn with(x: u32, i: usize) -> u32
     requires { ⌜ (i < 13) × (on x i ≡ 0) ⌝ }
     ensures { λ r. ⌜ With x i r ⌝ }
@@ -41,12 +44,14 @@ pub fn with(x: u32, i: usize) -> u32
     x | single(i)
 }
 
+// The members of both.
 pub fn meet(a: u32, b: u32) -> u32
     ensures { λ r. ⌜ Meet a b r ⌝ }
 {
     a & b
 }
 
+// The members of one or both.
 pub fn join(a: u32, b: u32) -> u32
     ensures { λ r. ⌜ Join a b r ⌝ }
 {

@@ -13,7 +13,7 @@ use Rattle.table.specs.Answer.{written}
 use Rattle.table.specs.Check.{numberOf, checkOf}
 use Rattle.table.specs.declared.Table.{Table}
 use Rattle.table.specs.declared.Refusal.{Refusal}
-use Rattle.table.specs.declared.Refusal.the-variants.{Size, Denominator, Cells, Cell, Layout, Content, Buffer, Number, Record, Taken}
+use Rattle.table.specs.declared.Refusal.the-variants.{Size, Denominator, CellCount, LargeCell, Layout, Content, Buffer, Number, Record, Taken}
 use Rattle.table.specs.declared.Checked.{Checked}
 use Rattle.table.specs.declared.Checked.the-variants as checked
 use Rattle.table.proofs.Checks.{accepted}
@@ -91,8 +91,8 @@ module _ (r c d : ℕ) (g : List ℕ) (k : Checked) (e : k ≡ checkOf r c d g) 
 refusal-small : (x : Refusal) → numberOf x ≤ 50912
 refusal-small Size = omega arith
 refusal-small Denominator = omega arith
-refusal-small Cells = omega arith
-refusal-small Cell = omega arith
+refusal-small CellCount = omega arith
+refusal-small LargeCell = omega arith
 refusal-small Layout = omega arith
 refusal-small Content = omega arith
 refusal-small Buffer = omega arith

@@ -2,7 +2,7 @@
 use mathlib.Core.Path.{_≡_, refl, sym, ap, _∙_}
 use mathlib.Core.Bool.{true}
 use mathlib.Core.List.{List}
-use Prim.Native.Nat.{ℕ, zero, suc, _+_, _-_, _*_, _/_, _%_, _<_, _≤_}
+use Prim.Native.Nat.{ℕ, _+_, _*_, _/_, _%_, _<_, _≤_}
 use native.Mathlib.Nat.{div-add-mod', mod-lt, div-lt-iff-lt-mul, div-le-of-le-mul, mul-comm}
 use native.Mathlib.Omega.{arith}
 use lib.ListN.{length, getD}
@@ -10,10 +10,9 @@ use lib.Seq.{ext-getD}
 use borrow.Author.Tests.{le-leb, lt-leb}
 use Rattle.table.specs.Lists.{tabulate}
 use Rattle.table.specs.Table.{gridAt, gridOf}
-use Rattle.table.specs.Whole.{down, gap}
 use Rattle.table.specs.Shape.{Shape, IsTable}
 use Rattle.table.specs.Fill.{Filled}
-use Rattle.table.specs.Answer.{after, written}
+use Rattle.table.specs.Answer.{written}
 use Rattle.table.specs.Check.{checkOf}
 use Rattle.table.specs.declared.Table.{Table}
 use Rattle.table.specs.declared.Refusal.{Refusal}
@@ -51,7 +50,7 @@ module _ {r c d : ℕ} {g : List ℕ} (t : IsTable r c d g) where
   pub table-grid : (e : List ℕ) → e ≡ gridOf r c g → IsGrid e
   table-grid e is = record { rows = r; columns = c; cells = g; shape = t .shape; is = is; small = rw is (grid-small t) }
 
-  -- a count of a controlled rounding is at most 1,001
+  -- a count of a controlled rounding fits 16 bits
   pub array-small : (a : List ℕ) → isRounding r c d g a ≡ true → (i j : ℕ) → i < r → j < c → gridAt r c a i j ≤ 65535
   array-small a h i j hi hj =
       let high = rounds-high d (gridAt r c g i j) (gridAt r c a i j)

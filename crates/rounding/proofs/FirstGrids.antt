@@ -1,7 +1,7 @@
 -- The first matrix of bits gives the first controlled rounding. Assumes nothing.
-use mathlib.Core.Path.{_≡_, refl, sym, ap, _∙_, subst}
-use mathlib.Core.Logic.{_⊎_, inl, inr, ⊎-elim}
-use mathlib.Core.Bool.{Bool, true, false}
+use mathlib.Core.Path.{_≡_, sym, ap, _∙_}
+use mathlib.Core.Logic.{inl, inr}
+use mathlib.Core.Bool.{true}
 use mathlib.Core.List.{List, [], _∷_}
 use Prim.Native.Nat.{ℕ, zero, suc, _+_, _-_, _*_, _/_, _%_, _≤_, _<_, suc-le-suc}
 use native.Mathlib.Decide.{decLt}
@@ -9,9 +9,9 @@ use native.Mathlib.Nat.{div-add-mod', mod-lt, div-lt-iff-lt-mul, div-le-self, ze
 use native.Mathlib.Omega.{arith}
 use lib.Arith.{digits-lt, digits-div, digits-mod}
 use lib.ListN.{length, getD}
-use Rattle.table.specs.Lists.{tabulate, sumTo}
+use Rattle.table.specs.Lists.{tabulate}
 use Rattle.table.specs.Table.{gridAt}
-use Rattle.table.specs.Whole.{down, gap, roundsTo}
+use Rattle.table.specs.Whole.{down, gap}
 use Rattle.table.specs.Shape.{Shape}
 use Rattle.table.proofs.Lists.{length-tabulate, getD-tabulate}
 use Rattle.table.proofs.Sums.{sum-ext}
@@ -21,7 +21,7 @@ use Rattle.margins.specs.Matrix.{at, Matrix, Solvable, FirstMatrix}
 use Rattle.rounding.specs.Order.{Before}
 use Rattle.rounding.specs.Rounding.{isRounding, IsFirst}
 use Rattle.rounding.proofs.Roundings.{shape-of, rounding-length, rounding-grid, grid-rounding}
-use Rattle.rounding.proofs.LineKinds.{kind-of, kind-cell}
+use Rattle.rounding.proofs.PlaceKinds.{kind-cell}
 use Rattle.rounding.proofs.Matrices.{Grid, turned, row-cases, LineSums, LineNeeds, Between, share, share-le, share-turned, share-row, bits, bits-le, bits-turned, bits-row, counts, counts-between, counts-turned, counts-sums, sums-agree}
 
 -- the lines of a table's grid

@@ -4,11 +4,11 @@ use mathlib.Core.Logic.{_⊎_, inl, inr, ⊎-elim}
 use mathlib.Core.Bool.{Bool, true, false, false≢true}
 use mathlib.Core.List.{List, [], _∷_}
 use mathlib.Core.Option.{Option, some, none}
-use Prim.Native.Nat.{ℕ, zero, suc, _≤_, _<_}
+use Prim.Native.Nat.{ℕ, _≤_, _<_}
 use native.Mathlib.Nat.{eq-or-lt-of-le, lt-of-not-le}
 use native.Mathlib.Decide.{decLe}
 use native.Mathlib.Omega.{arith}
-use Rattle.rounding.specs.Order.{Before, Choice, either, itself, firstOf}
+use Rattle.rounding.specs.Order.{Before, Choice, either, emptyIf, firstOf}
 
 -- an array made of the counts to choose from
 abbrev pub Within : List Choice → List ℕ → Type 0
@@ -54,7 +54,7 @@ module _ (test : List ℕ → Bool) (c : Choice) (cs : List Choice) (o : c .low 
   join none (some r) f g = record { passes = g .passes; within = (inr refl, g .within); first = after-high r f g }
   join none none f g = neither f g
 
-last : (test : List ℕ → Bool) (b : Bool) → test [] ≡ b → Answer test [] (itself b)
+last : (test : List ℕ → Bool) (b : Bool) → test [] ≡ b → Answer test [] (emptyIf b)
 last test true e = record { passes = e; within = tt; first = none-before }
   where
     none-before : (k : List ℕ) → Within [] k → test k ≡ true → Before k [] → ⊥

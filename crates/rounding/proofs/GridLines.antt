@@ -1,22 +1,21 @@
 -- Whole parts and gaps of a table's grid, line by line: what is said of lines that are `next` apart, with places `step` apart,
 -- is used for rows (13 and 1) and for columns (1 and 13). Assumes nothing.
-use mathlib.Core.Path.{_≡_, refl, sym, ap, _∙_}
+use mathlib.Core.Path.{_≡_, ap, _∙_}
 use mathlib.Core.List.{List}
-use Prim.Native.Nat.{ℕ, zero, suc, _+_, _-_, _*_, _/_, _%_, _≤_, _<_}
+use Prim.Native.Nat.{ℕ, _+_, _*_, _≤_, _<_}
 use native.Mathlib.Decide.{decLt}
-use native.Mathlib.Nat.{div-le-self, mul-le-mul-right}
+use native.Mathlib.Nat.{div-le-self}
 use native.Mathlib.Omega.{arith}
-use lib.Arith.{digits-div, digits-mod}
-use lib.ListN.{length, getD, List·getD-eq-default}
+use lib.ListN.{getD, List·getD-eq-default}
 use Rattle.table.specs.Lists.{sumTo}
-use Rattle.table.specs.Table.{gridAt, gridOf}
+use Rattle.table.specs.Table.{maxEntry, gridAt, gridOf}
 use Rattle.table.specs.Whole.{down, gap}
 use Rattle.table.specs.Shape.{Shape}
 use Rattle.table.proofs.Sums.{sum-ext, sum-add}
 use Rattle.table.proofs.Totals.{grid-at}
 use Rattle.table.proofs.Roundings.{gap-le}
 use Rattle.margins.specs.Matrix.{at, Caps}
-use Rattle.rounding.specs.Lines.{up, wholes, ups, Parts, LineFits, CellsFit, TotalsFit, LinesFit, Needs}
+use Rattle.rounding.specs.Lines.{up, wholes, ups, Parts, LineFits, LinesFit, Needs}
 use Rattle.rounding.proofs.Lines.{low, high, gaps-le}
 use Rattle.rounding.proofs.Matrices.{Grid, turned, LineSums, LineNeeds}
 
@@ -27,7 +26,7 @@ pub record Laid (w : ℕ) (x : Grid) (f cap : List ℕ) (next step : ℕ) : Type
   pub inside : (p : ℕ) → p < 13 → p * next + 12 * step < 169
   pub f-at : (p q : ℕ) → p < 13 → q < 13 → getD f (p * next + q * step) 0 ≡ down w (x p q)
   pub cap-at : (p q : ℕ) → p < 13 → q < 13 → getD cap (p * next + q * step) 0 ≡ gap w (x p q)
-  pub small : (k : ℕ) → getD f k 0 ≤ 9437040000
+  pub small : (k : ℕ) → getD f k 0 ≤ maxEntry
   pub cap-small : (k : ℕ) → k < 169 → getD cap k 0 ≤ 1
 
 module _ {w : ℕ} (wp : 0 < w) {x : Grid} {f cap : List ℕ} {next step : ℕ} (l : Laid w x f cap next step) where
@@ -78,7 +77,7 @@ module _ {w : ℕ} (wp : 0 < w) {x : Grid} {f cap : List ℕ} {next step : ℕ} 
   }
 
 module _ {r c : ℕ} {g : List ℕ} (s : Shape r c g) {w : ℕ} {e f cap : List ℕ} (is : e ≡ gridOf r c g) (t : Parts w e f cap)
-    (small : (k : ℕ) → getD e k 0 ≤ 9437040000) where
+    (small : (k : ℕ) → getD e k 0 ≤ maxEntry) where
   entry-at : (p q : ℕ) → p < 13 → q < 13 → getD e (p * 13 + q) 0 ≡ gridAt r c g p q
   entry-at p q hp hq = ap (λ (l : List ℕ). getD l (p * 13 + q) 0) is ∙ grid-at r c g p q hp hq
 
@@ -88,10 +87,10 @@ module _ {r c : ℕ} {g : List ℕ} (s : Shape r c g) {w : ℕ} {e f cap : List 
   pub gap-at : (p q : ℕ) → p < 13 → q < 13 → at cap p q ≡ gap w (gridAt r c g p q)
   gap-at p q hp hq = t .gaps (p * 13 + q) (omega arith) ∙ ap (gap w) (entry-at p q hp hq)
 
-  pub whole-small : (k : ℕ) → getD f k 0 ≤ 9437040000
+  pub whole-small : (k : ℕ) → getD f k 0 ≤ maxEntry
   whole-small k = go (decLt k 169)
     where
-      go : Dec (k < 169) → getD f k 0 ≤ 9437040000
+      go : Dec (k < 169) → getD f k 0 ≤ maxEntry
       go (yes h) = omega (arith, t .whole k h, small k, div-le-self (getD e k 0) w)
       go (no h) = omega (arith, List·getD-eq-default f 0 {n = k} (omega (arith, t .f-len)))
 

@@ -1,10 +1,10 @@
 -- The rounding of a grid, step by step. Assumes nothing.
-use mathlib.Core.Path.{_≡_, refl, sym, ap, _∙_}
+use mathlib.Core.Path.{_≡_, sym, _∙_}
 use mathlib.Core.List.{List}
-use Prim.Native.Nat.{ℕ, zero, suc, _+_, _-_, _*_, _/_, _%_, _≤_, _<_}
+use Prim.Native.Nat.{ℕ, _+_, _*_, _/_, _%_, _<_}
 use native.Mathlib.Nat.{one-mul}
 use native.Mathlib.Omega.{arith}
-use lib.ListN.{length, getD}
+use lib.ListN.{getD}
 use lib.Seq.{ext-getD}
 use Rattle.table.specs.Table.{gridAt, gridOf}
 use Rattle.table.specs.Whole.{down, gap}
@@ -12,7 +12,7 @@ use Rattle.table.specs.Shape.{Shape}
 use Rattle.table.proofs.Totals.{grid-at, length-grid}
 use Rattle.margins.specs.Matrix.{at, Caps, Solvable, FirstMatrix}
 use Rattle.rounding.specs.Rounding.{IsFirst, firstRounding}
-use Rattle.rounding.specs.Lines.{kind, Parts, LinesFit, Needs, BitsFit, Counted, IsGrid, RoundedGrid}
+use Rattle.rounding.specs.Lines.{Parts, LinesFit, Needs, BitsFit, Counted, IsGrid, RoundedGrid}
 use Rattle.rounding.proofs.Roundings.{first-is}
 use Rattle.rounding.proofs.Matrices.{LineNeeds, turned, counts}
 use Rattle.rounding.proofs.FirstGrids.{grid-rows, grid-columns, solvable, m, n, n-grid, first}

@@ -1,7 +1,7 @@
 pub mod Firsts
 pub mod Roundings
 pub mod Lines
-pub mod LineKinds
+pub mod PlaceKinds
 pub mod Matrices
 pub mod FirstGrids
 pub mod GridLines

@@ -1,6 +1,6 @@
 -- Lines of twelve entries and their total, in whole parts and remainders. Assumes nothing.
-use mathlib.Core.Path.{_≡_, refl, sym, ap, _∙_}
-use Prim.Native.Nat.{ℕ, zero, suc, _+_, _-_, _*_, _/_, _%_, _≤_, _<_}
+use mathlib.Core.Path.{_≡_, sym, ap, _∙_}
+use Prim.Native.Nat.{ℕ, _+_, _-_, _*_, _%_, _≤_, _<_}
 use native.Mathlib.Nat.{div-add-mod, mod-lt, mul-add, mul-one, le-of-mul-le-mul-left, lt-of-mul-lt-mul-left}
 use native.Mathlib.Omega.{arith}
 use Rattle.table.specs.Lists.{sumTo}
@@ -73,7 +73,7 @@ module _ (w : ℕ) (wp : 0 < w) where
         let scaled : w * (n + down w t) ≡ w * (wholes + gaps) = ap (λ (x : ℕ). w * x) e in
         omega (arith, scaled, mul-add w n (down w t), mul-add w wholes gaps, parts, slacks)
 
--- lines of counts and lines of bits: a cell's count is its whole part and its bit, a total's lacks its bit
+-- lines of counts and lines of bits: a cell's count is its whole part and its bit, that of a row or column total lacks its bit
 module _ (f m : ℕ → ℕ) (low : (k : ℕ) → k < 12 → f k ≤ m k) (t : ℕ) (is : t ≡ sumTo 12 m) where
   pub cells-bits : (top n : ℕ) → t ≤ top → n + sumTo 12 f ≡ top → sumTo 12 (λ k. m k - f k) + (top - t) ≡ n
   cells-bits top n h e = omega (arith, sum-sub 12 f m low)

@@ -1,16 +1,15 @@
 -- A table and its roundings as matrices with line sums: what is said of rows holds of columns with the indices exchanged. Assumes nothing.
-use mathlib.Core.Path.{_≡_, refl, sym, ap, _∙_}
-use Prim.Native.Nat.{ℕ, zero, suc, _+_, _-_, _*_, _/_, _%_, _≤_, _<_}
+use mathlib.Core.Path.{_≡_, refl, sym, _∙_}
+use Prim.Native.Nat.{ℕ, _+_, _-_, _*_, _%_, _≤_, _<_}
 use native.Mathlib.Decide.{decLt}
-use native.Mathlib.Nat.{mul-one}
 use native.Mathlib.Omega.{arith}
 use Rattle.table.specs.Lists.{sumTo}
 use Rattle.table.specs.Whole.{down, gap}
 use Rattle.table.proofs.Sums.{sum-ext, sum-add}
-use Rattle.table.proofs.Roundings.{gap-le, rest-le}
+use Rattle.table.proofs.Roundings.{rest-le}
 use Rattle.rounding.specs.Lines.{kind}
 use Rattle.rounding.proofs.Lines.{slack, slack-le, cells-need, totals-need, cells-bits, totals-bits, cells-counts, totals-counts}
-use Rattle.rounding.proofs.LineKinds.{kind-swap, kind-of, kind-cell, kind-row, kind-column, kind-grand, sum-cells, sum-totals}
+use Rattle.rounding.proofs.PlaceKinds.{kind-swap, kind-of, kind-cell, kind-row, kind-column, kind-grand, sum-cells, sum-totals}
 
 abbrev pub Grid : Type 0
 Grid = ℕ → ℕ → ℕ
@@ -35,7 +34,7 @@ row-cases {P} f t p h = go (decLt p 12)
     go (yes l) = f p l
     go (no l) = let e : p ≡ 12 = omega arith in rw e t
 
--- remainders at cells, slacks at totals
+-- remainders at cells and the grand total, slacks at row and column totals
 pub share : (w : ℕ) → 0 < w → Grid → Grid
 share w wp e p q = kind p q (e p q % w) (slack w wp (e p q))
 

@@ -1,8 +1,8 @@
 -- What the loops over whole parts, gaps and counts keep. Assumes nothing.
 use mathlib.Core.Path.{_≡_, refl, sym, ap, _∙_}
-use mathlib.Core.Bool.{true, false, cond}
+use mathlib.Core.Bool.{cond}
 use mathlib.Core.List.{List}
-use Prim.Native.Nat.{ℕ, zero, suc, _+_, _-_, _*_, _/_, _%_, _≤_, _<_}
+use Prim.Native.Nat.{ℕ, _+_, _-_, _*_, _/_, _%_, _≤_, _<_}
 use native.Mathlib.Nat.{add-mul, mul-le-mul-right, le-of-lt}
 use native.Mathlib.Numerals.{add-one}
 use native.Mathlib.Omega.{arith}
@@ -15,6 +15,7 @@ use borrow.Author.Tests.{eq-eqb, ne-eqb}
 use Rattle.table.specs.Lists.{sumTo}
 use Rattle.table.specs.Whole.{down, gap, whole}
 use Rattle.table.proofs.Lists.{each-more}
+use Rattle.table.specs.Table.{maxEntry}
 use Rattle.rounding.specs.Lines.{kind, up, wholes, ups, Parts, LineFits, CellsFit, TotalsFit, LinesFit, Needs, BitsFit, Counted}
 
 pub gap-zero : (x : ℕ) → x ≡ 0 → _≡_ {A = ℕ} 0 (cond (eqb x 0) 0 1)
@@ -75,7 +76,7 @@ pub record CountedTo (f cap b n : List ℕ) (k : ℕ) : Type 0 where
   pub len : length n ≡ 169
   pub is : (i : ℕ) → i < k → getD n i 0 ≡ countAt f cap b i
 
-pub count-ready : {f cap b : List ℕ} {k : ℕ} → BitsFit f cap b → k < 169 → (getD f k 0 ≤ 9437040000) × (getD b k 0 ≤ getD cap k 0)
+pub count-ready : {f cap b : List ℕ} {k : ℕ} → BitsFit f cap b → k < 169 → (getD f k 0 ≤ maxEntry) × (getD b k 0 ≤ getD cap k 0)
 count-ready {f} {cap} {b} {k} t h = (t .small k, t .bits k h)
 
 pub counted-none : (f cap b n : List ℕ) → length n ≡ 169 → CountedTo f cap b n 0

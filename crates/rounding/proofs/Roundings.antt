@@ -1,28 +1,25 @@
 -- Controlled roundings, at each place of the grid; and the search finds the first. Assumes nothing.
-use mathlib.Core.Path.{_≡_, refl, sym, ap, _∙_}
-use mathlib.Core.Logic.{_⊎_, inl, inr, ⊎-elim}
-use mathlib.Core.Bool.{Bool, true, false, cond, _&&_}
+use mathlib.Core.Path.{_≡_, sym, ap, _∙_}
+use mathlib.Core.Logic.{_⊎_, inl, inr}
+use mathlib.Core.Bool.{true}
 use mathlib.Core.List.{List, [], _∷_, map}
-use mathlib.Core.Option.{Option, some, none}
-use Prim.Native.Nat.{ℕ, zero, suc, _+_, _*_, _/_, _%_, _≤_, _<_, suc-le-suc}
+use Prim.Native.Nat.{ℕ, suc, _+_, _*_, _/_, _%_, _<_, suc-le-suc}
 use native.Mathlib.Nat.{div-add-mod', mod-lt, div-lt-iff-lt-mul, div-le-self}
 use native.Mathlib.Decide.{ℕ-discrete}
 use native.Mathlib.Omega.{arith}
 use lib.ListN.{length, getD}
 use lib.Dec.{eqb}
 use borrow.Author.Tests.{eq-eqb, eqb-true}
-use Rattle.table.specs.Lists.{all, sum}
-use Rattle.table.specs.Table.{total, entryPlaces, gridPlaces, gridAt}
-use Rattle.table.specs.Whole.{down, up, gap, roundsTo}
+use Rattle.table.specs.Table.{total, gridAt}
+use Rattle.table.specs.Whole.{down, up, roundsTo}
 use Rattle.table.specs.Shape.{Shape}
 use Rattle.table.proofs.Lists.{and-left, and-right, and-both}
 use Rattle.table.proofs.Totals.{total-none}
 use Rattle.table.proofs.GridSums.{cell-at}
 use Rattle.table.proofs.EntryTests.{entries-grid, grid-entries}
 use Rattle.table.proofs.Roundings.{gap-le, rounds, rounds-low, rounds-high}
-use Rattle.rounding.specs.Order.{Before, Choice, firstOf}
 use Rattle.rounding.specs.Rounding.{isRounding, IsFirst, choice, found, firstRounding}
-use Rattle.rounding.proofs.Firsts.{Within, Ordered, FirstWithin, found-first}
+use Rattle.rounding.proofs.Firsts.{Within, Ordered, found-first}
 
 -- a list of r by c counts has the shape of the cells
 pub shape-of : {r c : ℕ} {g : List ℕ} → Shape r c g → (n : List ℕ) → length n ≡ r * c → Shape r c n

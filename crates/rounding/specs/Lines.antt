@@ -1,4 +1,4 @@
--- Inner definitions of the rounding: an entry is its whole part and a bit. Only this crate's functions cite them. Assumes nothing.
+-- Inner definitions of the rounding: an entry is its whole part and a bit. Only this crate's functions cite them, and `plan`'s those on grids. Assumes nothing.
 use mathlib.Core.Path.{_≡_}
 use mathlib.Core.Bool.{cond}
 use mathlib.Core.List.{List}
@@ -6,7 +6,7 @@ use Prim.Native.Nat.{ℕ, _+_, _-_, _*_, _/_, _%_, _<_, _≤_}
 use lib.ListN.{length, getD}
 use lib.Dec.{eqb}
 use Rattle.table.specs.Lists.{sumTo}
-use Rattle.table.specs.Table.{gridOf}
+use Rattle.table.specs.Table.{maxEntry, gridOf}
 use Rattle.table.specs.Whole.{down, gap}
 use Rattle.table.specs.Shape.{Shape}
 use Rattle.rounding.specs.Rounding.{IsFirst, firstRounding}
@@ -33,11 +33,11 @@ wholes f start step = sumTo 12 (λ k. getD f (start + k * step) 0)
 unfoldable pub ups : List ℕ → List ℕ → ℕ → ℕ → ℕ
 ups f cap start step = sumTo 12 (λ k. up f cap (start + k * step))
 
--- a line of 13 places, with numbers that are small
+-- a line of 13 places, whose sums fit 64 bits
 pub record LineFits (f cap : List ℕ) (start step : ℕ) : Type 0 where
   pub step-small : step ≤ 13
   pub inside : start + 12 * step < 169
-  pub small : (k : ℕ) → getD f k 0 ≤ 9437040000
+  pub small : (k : ℕ) → getD f k 0 ≤ maxEntry
   pub cap-small : (k : ℕ) → k < 169 → getD cap k 0 ≤ 1
 
 -- what the whole parts leave to do is from 0 to 13
@@ -46,6 +46,7 @@ pub record CellsFit (f cap : List ℕ) (start step : ℕ) : Type 0 where
   pub low : wholes f start step ≤ up f cap (start + 12 * step)
   pub high : up f cap (start + 12 * step) ≤ wholes f start step + 13
 
+-- what the totals rounded up leave of the grand total is from 0 to 13
 pub record TotalsFit (f cap : List ℕ) (start step : ℕ) : Type 0 where
   pub fits : LineFits f cap start step
   pub low : getD f (start + 12 * step) 0 ≤ ups f cap start step
@@ -65,10 +66,10 @@ pub record Needs (f cap : List ℕ) (next step : ℕ) (n : List ℕ) : Type 0 wh
 
 -- bits at most the gaps
 pub record BitsFit (f cap b : List ℕ) : Type 0 where
-  pub small : (k : ℕ) → getD f k 0 ≤ 9437040000
+  pub small : (k : ℕ) → getD f k 0 ≤ maxEntry
   pub bits : (k : ℕ) → k < 169 → getD b k 0 ≤ getD cap k 0
 
--- counts from whole parts and bits; a total's bit says what it lacks
+-- counts from whole parts and bits: the bit of a row or column total says what it lacks of being rounded up, that of a cell or the grand total is added
 pub record Counted (f cap b n : List ℕ) : Type 0 where
   pub len : length n ≡ 169
   pub is : (k : ℕ) → k < 169
@@ -81,9 +82,9 @@ pub record IsGrid (e : List ℕ) : Type 0 where
   pub cells : List ℕ
   pub shape : Shape rows columns cells
   pub is : e ≡ gridOf rows columns cells
-  pub small : (k : ℕ) → getD e k 0 ≤ 9437040000
+  pub small : (k : ℕ) → getD e k 0 ≤ maxEntry
 
--- the table that has the entries e has a first controlled rounding, and n has its entries
+-- every table that has the entries e has a first controlled rounding, and n has that rounding's entries
 pub record RoundedGrid (w : ℕ) (e n : List ℕ) : Type 0 where
   pub first : (r c : ℕ) (g : List ℕ) → Shape r c g → e ≡ gridOf r c g → IsFirst r c w g (firstRounding r c w g)
   pub is : (r c : ℕ) (g : List ℕ) → Shape r c g → e ≡ gridOf r c g → n ≡ gridOf r c (firstRounding r c w g)

@@ -17,19 +17,20 @@ pub record Choice : Type 0 where
   pub low : ℕ
   pub high : ℕ
 
+-- the low count with what follows it, else the high one
 abbrev pub either : ℕ → ℕ → Option (List ℕ) → Option (List ℕ) → Option (List ℕ)
 either l h (some n) v = some (l ∷ n)
 either l h none (some n) = some (h ∷ n)
 either l h none none = none
 
-abbrev pub itself : Bool → Option (List ℕ)
-itself true = some []
-itself false = none
+-- the empty array, if it passes
+abbrev pub emptyIf : Bool → Option (List ℕ)
+emptyIf true = some []
+emptyIf false = none
 
 -- the first array, in this order, of all those made of such counts that pass a test: at each cell the smaller count is tried first,
 -- with all that can follow it
 unfoldable pub firstOf : (List ℕ → Bool) → List Choice → Option (List ℕ)
-firstOf test [] = itself (test [])
+firstOf test [] = emptyIf (test [])
 firstOf test (c ∷ cs) =
-    let v = firstOf (λ n. test (c .high ∷ n)) cs in
-    either (c .low) (c .high) (firstOf (λ n. test (c .low ∷ n)) cs) v
+    either (c .low) (c .high) (firstOf (λ n. test (c .low ∷ n)) cs) (firstOf (λ n. test (c .high ∷ n)) cs)

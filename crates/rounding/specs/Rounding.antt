@@ -12,7 +12,7 @@ use Rattle.table.specs.Whole.{down, up, roundsTo}
 use Rattle.rounding.specs.Order.{Before, Choice, firstOf}
 
 -- "A controlled rounding is an array of counts n, one a cell [..], with totals formed from it. Each of its entries, totals included,
--- is the entry of the table divided by D, rounded down or up; a whole entry stays." The denominator is w.
+-- is the entry of the table divided by D, rounded down or up; a whole entry stays." The denominator is w; a count of an accepted table is at most 1,001.
 unfoldable pub isRounding : ℕ → ℕ → ℕ → List ℕ → List ℕ → Bool
 isRounding r c w g n = eqb (length n) (r * c) && all (λ s. roundsTo w (total g s) (total n s)) (entryPlaces r c)
 
@@ -25,6 +25,7 @@ pub record IsFirst (r c w : ℕ) (g n : List ℕ) : Type 0 where
 abbrev pub choice : ℕ → ℕ → Choice
 choice w e = record { low = down w e; high = up w e }
 
+-- the array that the search found; for an accepted table it finds one
 abbrev pub found : Option (List ℕ) → List ℕ
 found (some n) = n
 found none = []

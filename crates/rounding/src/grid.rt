@@ -1,6 +1,6 @@
 // The first controlled rounding of a table that is held as a grid.
 ghost use mathlib.Core.Path.{_≡_};
-ghost use Prim.Native.Nat.{ℕ, _<_};
+ghost use Prim.Native.Nat.{_<_};
 ghost use lib.ListN.{length};
 ghost use Rattle.rounding.specs.Lines.{IsGrid, RoundedGrid};
 use crate::needs::needs;

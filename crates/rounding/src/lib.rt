@@ -1,7 +1,6 @@
 // Controlled roundings: the first of a table, in the stated order.
 ghost use mathlib.Core.Path.{_≡_};
-ghost use mathlib.Core.List.{List};
-ghost use Prim.Native.Nat.{ℕ, _*_, _≤_};
+ghost use Prim.Native.Nat.{_*_, _≤_};
 ghost use lib.ListN.{length};
 ghost use Rattle.table.specs.Shape.{IsTable};
 ghost use Rattle.table.specs.Answer.{after, written};

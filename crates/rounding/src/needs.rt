@@ -1,15 +1,11 @@
-// How many bits the lines of a table have.
+// For each line of the grid its need: how many of its bits are 1.
 ghost use mathlib.Core.Path.{_≡_};
-ghost use Prim.Native.Nat.{ℕ, _+_, _*_, _≤_, _<_};
+ghost use Prim.Native.Nat.{_+_, _*_, _≤_};
 ghost use lib.ListN.{getD};
 ghost use Rattle.rounding.specs.Lines.{up, wholes, ups, LineFits, CellsFit, TotalsFit, LinesFit, Needs};
+use crate::parts::wide;
 
-fn wide(x: u8) -> u64
-    ensures { λ r. ⌜ r ≡ x ⌝ }
-{
-    x as u64
-}
-
+// A need as a byte.
 fn narrow(x: u64) -> u8
     requires { ⌜ x ≤ 13 ⌝ }
     ensures { λ r. ⌜ r ≡ x ⌝ }

@@ -1,12 +1,13 @@
 // Whole parts and gaps of a table's entries, and counts from them.
 ghost use mathlib.Core.Path.{_≡_};
 ghost use mathlib.Core.Bool.{cond};
-ghost use Prim.Native.Nat.{ℕ, _+_, _-_, _*_, _≤_, _<_};
-ghost use lib.ListN.{length, getD};
+ghost use Prim.Native.Nat.{_+_, _-_, _≤_, _<_};
+ghost use lib.ListN.{length};
 ghost use lib.Dec.{eqb};
+ghost use Rattle.table.specs.Table.{maxEntry};
 ghost use Rattle.rounding.specs.Lines.{kind, Parts, BitsFit, Counted};
 
-// 1 where a remainder is not 0.
+// 1 where a remainder is not 0, else 0.
 pub fn gap_of(rest: u64) -> u8
     ensures { λ r. ⌜ r ≡ cond (eqb rest 0) 0 1 ⌝ }
 {
@@ -25,15 +26,16 @@ pub fn parts(e: &[u64; 169], w: u64, f: &mut [u64; 169], cap: &mut [u8; 169])
     }
 }
 
-fn wide(x: u8) -> u64
+// A byte as a number of 64 bits.
+pub fn wide(x: u8) -> u64
     ensures { λ r. ⌜ r ≡ x ⌝ }
 {
     x as u64
 }
 
-// The count at row p and column q: the bit of a total says what it lacks.
+// The count at row p and column q: the bit of a row or column total says what it lacks of being rounded up, that of a cell or the grand total is added.
 pub fn count(p: usize, q: usize, f: u64, cap: u8, bit: u8) -> u64
-    requires { ⌜ (f ≤ 9437040000) × (bit ≤ cap) ⌝ }
+    requires { ⌜ (f ≤ maxEntry) × (bit ≤ cap) ⌝ }
     ensures { λ r. ⌜ r ≡ kind p q (f + bit) (f + cap - bit) ⌝ }
 {
     if p == 12 {

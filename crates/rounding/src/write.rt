@@ -1,10 +1,11 @@
 // The cells of a grid, written out as counts.
 ghost use mathlib.Core.Path.{_≡_};
-ghost use Prim.Native.Nat.{ℕ, _+_, _*_, _/_, _%_, _≤_, _<_};
+ghost use Prim.Native.Nat.{_+_, _*_, _≤_};
 ghost use lib.ListN.{length, getD};
 ghost use Rattle.table.specs.Fill.{Filled};
 ghost use Rattle.rounding.specs.Lines.{cellIn, RowReady, Ready};
 
+// A count of 16 bits.
 fn narrow(x: u64) -> u16
     requires { ⌜ x ≤ 65535 ⌝ }
     ensures { λ r. ⌜ r ≡ x ⌝ }

@@ -1,8 +1,8 @@
 -- What the check of a table says on each way through its tests. Assumes nothing.
-use mathlib.Core.Path.{_≡_, refl, sym, ap, _∙_}
+use mathlib.Core.Path.{_≡_, refl, sym, _∙_}
 use mathlib.Core.Bool.{Bool, true, false, not, cond, _&&_}
 use mathlib.Core.List.{List}
-use Prim.Native.Nat.{ℕ, zero, suc, _+_, _*_, _<_, _≤_}
+use Prim.Native.Nat.{ℕ, _+_, _*_, _<_, _≤_}
 use native.Mathlib.Omega.{arith}
 use lib.ListN.{length, getD}
 use lib.Dec.{leb, eqb}
@@ -10,9 +10,8 @@ use mir.Val.{Fits}
 use mir.Syntax.{w32}
 use borrow.Author.Count.{below-more}
 use borrow.Author.Tests.{lt-leb, le-leb, leb-true, eq-eqb, ne-eqb, eqb-true, not-true, not-false}
-use Rattle.table.specs.Lists.{all}
 use Rattle.table.specs.Check.{upTo, cellsWithin, checkOf}
-use Rattle.table.specs.declared.Refusal.the-variants.{Size, Denominator, Cells, Cell}
+use Rattle.table.specs.declared.Refusal.the-variants.{Size, Denominator, CellCount, LargeCell}
 use Rattle.table.specs.declared.Table.{Table}
 use Rattle.table.specs.Shape.{IsTable}
 use Rattle.table.specs.declared.Checked.the-variants.{Accepted, Refused}
@@ -81,12 +80,12 @@ module _ (r c d : ℕ) (g : List ℕ) where
           denominator-good : upTo 65535 d ≡ true
           denominator-good = sym ye ∙ not-false y yh
 
-          pub bad-count : (length g ≡ r * c → ⊥) → Refused Cells ≡ checkOf r c d g
+          pub bad-count : (length g ≡ r * c → ⊥) → Refused CellCount ≡ checkOf r c d g
           unfolding checkOf
           bad-count h = simp (rows-good, columns-good, denominator-good, ne-eqb _ _ h)
 
           module _ (n : length g ≡ r * c) (z : Bool) (ze : z ≡ cellsWithin d g) where
-            pub bad-cell : not z ≡ true → Refused Cell ≡ checkOf r c d g
+            pub bad-cell : not z ≡ true → Refused LargeCell ≡ checkOf r c d g
             unfolding checkOf
             bad-cell h = simp (rows-good, columns-good, denominator-good, eq-eqb _ _ n, sym ze ∙ not-true z h)
 
@@ -111,7 +110,7 @@ module _ (r c d : ℕ) (g : List ℕ) where
   }
 
   tests : (t : Table) (x y z v : Bool) → upTo 12 r && upTo 12 c ≡ x → upTo 65535 d ≡ y → eqb (length g) (r * c) ≡ z → cellsWithin d g ≡ v
-      → Accepted t ≡ cond x (cond y (cond z (cond v (Accepted (record { rows = r; columns = c; denominator = d })) (Refused Cell)) (Refused Cells)) (Refused Denominator)) (Refused Size)
+      → Accepted t ≡ cond x (cond y (cond z (cond v (Accepted (record { rows = r; columns = c; denominator = d })) (Refused LargeCell)) (Refused CellCount)) (Refused Denominator)) (Refused Size)
       → IsTable r c d g × (t ≡ record { rows = r; columns = c; denominator = d })
   tests t true true true true e f h k q =
       (bounds (and-left (upTo 12 r) (upTo 12 c) e) (and-right (upTo 12 r) (upTo 12 c) e) f (eqb-true _ _ h) k, cc)

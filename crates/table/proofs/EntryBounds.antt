@@ -1,15 +1,15 @@
 -- No entry of an accepted table is above 144 times the largest cell. Assumes nothing.
-use mathlib.Core.Path.{_≡_, refl, sym, ap, _∙_}
-use mathlib.Core.List.{List, []}
-use Prim.Native.Nat.{ℕ, zero, suc, _+_, _*_, _/_, _%_, _<_, _≤_}
+use mathlib.Core.Path.{_≡_}
+use mathlib.Core.List.{List}
+use Prim.Native.Nat.{ℕ, zero, suc, _*_, _/_, _%_, _<_, _≤_}
 use native.Mathlib.Decide.{decLt}
 use native.Mathlib.Nat.{mul-le-mul, mul-le-mul-right, add-mul, one-mul, suc-mul, le-trans}
 use native.Mathlib.Omega.{arith}
 use lib.ListN.{length, getD, List·getD-eq-default}
 use Rattle.table.specs.Lists.{tabulate, sumTo}
-use Rattle.table.specs.Table.{total, gridPlaces, gridAt, gridOf}
-use Rattle.table.specs.Shape.{Shape, IsTable}
-use Rattle.table.proofs.Lists.{getD-tabulate, length-tabulate}
+use Rattle.table.specs.Table.{maxEntry, total, gridAt, gridOf}
+use Rattle.table.specs.Shape.{IsTable}
+use Rattle.table.proofs.Lists.{getD-tabulate}
 use Rattle.table.proofs.Totals.{total-sum, total-none, length-grid}
 use Rattle.table.proofs.EntryTests.{grid-each}
 
@@ -42,11 +42,11 @@ module _ {r c d : ℕ} {g : List ℕ} (t : IsTable r c d g) where
       go (yes h) = t .within k h
       go (no h) = omega (arith, List·getD-eq-default g 0 {n = k} (omega arith))
 
-  pub grid-small : (k : ℕ) → getD (gridOf r c g) k 0 ≤ 9437040000
+  pub grid-small : (k : ℕ) → getD (gridOf r c g) k 0 ≤ maxEntry
   unfolding gridOf
   grid-small k = go (decLt k 169)
     where
-      go : Dec (k < 169) → getD (gridOf r c g) k 0 ≤ 9437040000
+      go : Dec (k < 169) → getD (gridOf r c g) k 0 ≤ maxEntry
       go (yes h) =
           let e : getD (gridOf r c g) k 0 ≡ gridAt r c g (k / 13) (k % 13) = getD-tabulate 169 _ k 0 h in
           let m = grid-at-most g (1000 * d) cell-at-most r c (t .shape .rows) (t .shape .columns) (k / 13) (k % 13) in

@@ -1,13 +1,13 @@
 -- In the grid each total is the sum of its line: row totals, column totals and the grand total. Assumes nothing.
-use mathlib.Core.Path.{_≡_, refl, sym, ap, _∙_}
-use mathlib.Core.List.{List, [], _∷_}
-use Prim.Native.Nat.{ℕ, zero, suc, _+_, _*_, _/_, _%_, _<_, _≤_}
+use mathlib.Core.Path.{_≡_, sym, ap, _∙_}
+use mathlib.Core.List.{List}
+use Prim.Native.Nat.{ℕ, _+_, _*_, _<_, _≤_}
 use native.Mathlib.Decide.{decLt}
 use native.Mathlib.Nat.{mul-one, zero-add}
 use native.Mathlib.Omega.{arith}
-use lib.ListN.{length, getD}
-use Rattle.table.specs.Lists.{tabulate, sumTo}
-use Rattle.table.specs.Table.{places, total, cellPlaces, rowPlaces, columnPlaces, allPlaces, gridPlaces, gridAt}
+use lib.ListN.{getD}
+use Rattle.table.specs.Lists.{sumTo}
+use Rattle.table.specs.Table.{total, gridAt}
 use Rattle.table.specs.Shape.{Shape}
 use Rattle.table.proofs.Sums.{sum-ext, sum-zero, sum-beyond, sum-rows, sum-swap}
 use Rattle.table.proofs.Totals.{total-sum, total-none, grid-no-row, grid-row, grid-past, grid-cell, grid-column, grid-no-column, grid-grand}

@@ -1,12 +1,11 @@
--- The grid holds the entries in 01's order, and nothing else. Assumes nothing.
-use mathlib.Core.Path.{_≡_, refl, sym, ap, ap₂, _∙_}
-use mathlib.Core.List.{List, [], _∷_, _++_, map, map-append, map-map}
-use Prim.Native.Nat.{ℕ, zero, suc, _+_, _*_, _/_, _%_, _<_, _≤_}
+-- The entries, in their order, are what stands at the places of `gridOrder`. Assumes nothing.
+use mathlib.Core.Path.{_≡_, sym, ap, _∙_}
+use mathlib.Core.List.{List, map, map-append, map-map}
+use Prim.Native.Nat.{ℕ, _+_, _*_, _/_, _%_, _<_}
 use native.Mathlib.Nat.{div-add-mod', mod-lt, div-lt-iff-lt-mul}
 use native.Mathlib.Omega.{arith}
 use lib.Arith.{digits-div, digits-mod}
-use lib.ListN.{length, getD}
-use Rattle.table.specs.Lists.{tabulate}
+use lib.ListN.{getD}
 use Rattle.table.specs.Table.{total, cellPlaces, rowPlaces, columnPlaces, allPlaces, lines, entryPlaces, entries, gridPlaces, gridAt, gridOf, gridOrder}
 use Rattle.table.specs.Shape.{Shape}
 use Rattle.table.proofs.Lists.{getD-tabulate, tabulate-ext, map-tabulate}

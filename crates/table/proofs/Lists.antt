@@ -1,14 +1,16 @@
 -- Laws on lists: a list made of a function, a test of every element. Assumes nothing.
 use mathlib.Core.Path.{_≡_, refl, sym, ap, subst, _∙_}
 use mathlib.Core.Bool.{Bool, true, false, _&&_, false≢true, and-assoc}
-use mathlib.Core.List.{List, [], _∷_, _++_, map}
-use Prim.Native.Nat.{ℕ, zero, suc, _+_, _<_, _≤_, suc-le-suc}
+use mathlib.Core.Logic.{⊎-elim}
+use mathlib.Core.List.{List, [], _∷_, _++_, map, List·Memᴰ as Member, List·Memᴰ·head as here, List·Memᴰ·tail as there}
+use mathlib.Core.List.{List·Memᴰ·not-nil as member-none, List·Memᴰ·cases-cons as member-cases}
+use Prim.Native.Nat.{ℕ, zero, suc, _+_, _<_, suc-le-suc}
 use native.Mathlib.Nat.{not-suc-le-zero, le-of-suc-le-suc}
 use native.Mathlib.Omega.{arith}
 use borrow.Author.Count.{below-more}
 use lib.ListN.{length, getD, set}
 use lib.Seq.{getD-set-same, getD-set-other}
-use Rattle.table.specs.Lists.{tabulate, sum, all, least}
+use Rattle.table.specs.Lists.{tabulate, all}
 
 pub and-left : (a b : Bool) → (a && b) ≡ true → a ≡ true
 and-left true b h = refl
@@ -85,7 +87,22 @@ and-both {a} {b} h k = rw h k
 -- a loop that stores at each place in turn: what holds of the places before holds of one more
 pub each-more : (P : ℕ → ℕ → Type 0) (l : List ℕ) (k v : ℕ) → k < length l → ((j : ℕ) → j < k → P j (getD l j 0)) → P k v
     → (j : ℕ) → j < k + 1 → P j (getD (set l k v) j 0)
-each-more P l k v h f here =
+each-more P l k v h f new =
     below-more (λ (j : ℕ). P j (getD (set l k v) j 0)) k
     (λ j p. subst (P j) (sym (getD-set-other l k j v 0 (λ e. omega arith))) (f j p))
-    (subst (P k) (sym (getD-set-same l k v 0 h)) here)
+    (subst (P k) (sym (getD-set-same l k v 0 h)) new)
+
+module _ {ℓ} {A : Type ℓ} where
+  -- an element of a list that passes a test everywhere, and of a list made of a function
+  pub all-member : (f : A → Bool) {x : A} {l : List A} → all f l ≡ true → Member x l → f x ≡ true
+  unfolding all
+  all-member f {x} {l = y ∷ l} h (here e) = ap f e ∙ and-left (f y) (all f l) h
+  all-member f {x} {l = y ∷ l} h (there m) = all-member f (and-right (f y) (all f l) h) m
+
+  pub tabulate-member {κ} : (P : A → Type κ) {x : A} (n : ℕ) (f : ℕ → A) → Member x (tabulate n f) → ((i : ℕ) → i < n → P (f i)) → P x
+  unfolding tabulate
+  tabulate-member P zero f m h = absurd (member-none m)
+  tabulate-member P (suc n) f m h = ⊎-elim
+      (λ e. subst P (sym e) (h 0 (omega arith)))
+      (λ r. tabulate-member P n (λ i. f (suc i)) r (λ i l. h (suc i) (suc-le-suc l)))
+      (member-cases m)

@@ -1,8 +1,7 @@
 -- Laws on the entries of a table. Assumes nothing.
 use mathlib.Core.Path.{_≡_, refl, sym, ap, _∙_}
-use mathlib.Core.Bool.{Bool, true, false}
-use mathlib.Core.List.{List, [], _∷_, map}
-use Prim.Native.Nat.{ℕ, zero, suc, _+_, _*_, _/_, _%_, _<_, _≤_}
+use mathlib.Core.List.{List, []}
+use Prim.Native.Nat.{ℕ, suc, _+_, _*_, _/_, _%_, _<_, _≤_}
 use native.Mathlib.Nat.{mul-le-mul, lt-of-le-of-lt, add-mul, mul-one}
 use native.Mathlib.Numerals.{add-one}
 use native.Mathlib.Omega.{arith}
@@ -28,11 +27,12 @@ pub total-none : (g : List ℕ) → total g [] ≡ 0
 unfolding total sum
 total-none g = refl
 
--- one place more
+-- no place
 pub total-zero : (g : List ℕ) (start step : ℕ) → 0 ≡ total g (places start step 0)
 unfolding sumTo
 total-zero g start step = sym (total-sum g 0 _)
 
+-- one place more
 pub total-more : (g : List ℕ) (start step k : ℕ) → total g (places start step (k + 1)) ≡ total g (places start step k) + getD g (start + k * step) 0
 unfolding sumTo
 total-more g start step k =

@@ -1,11 +1,11 @@
 -- Refusals, and which one a table meets (01, "Turned back"). Assumes nothing.
-use mathlib.Core.Bool.{Bool, cond, not, _&&_}
+use mathlib.Core.Bool.{Bool, cond, _&&_}
 use mathlib.Core.List.{List}
 use Prim.Native.Nat.{ℕ, _*_}
 use lib.ListN.{length}
 use lib.Dec.{leb, eqb}
 use Rattle.table.specs.declared.Refusal.{Refusal}
-use Rattle.table.specs.declared.Refusal.the-variants.{Size, Denominator, Cells, Cell, Layout, Content, Buffer, Number, Record, Taken}
+use Rattle.table.specs.declared.Refusal.the-variants.{Size, Denominator, CellCount, LargeCell, Layout, Content, Buffer, Number, Record, Taken}
 use Rattle.table.specs.declared.Checked.{Checked}
 use Rattle.table.specs.declared.Checked.the-variants.{Accepted, Refused}
 use Rattle.table.specs.Lists.{all}
@@ -15,8 +15,8 @@ use Rattle.table.specs.Table.{maxRows, maxColumns, maxDenominator, maxEx
 abbrev pub numberOf : Refusal → ℕ
 numberOf Size = 1
 numberOf Denominator = 2
-numberOf Cells = 3
-numberOf Cell = 4
+numberOf CellCount = 3
+numberOf LargeCell = 4
 numberOf Layout = 5
 numberOf Content = 6
 numberOf Buffer = 7
@@ -41,7 +41,7 @@ checkOf r c d g =
     (cond (eqb (length g) (r * c))
     (cond (cellsWithin d g)
     (Accepted (record { rows = r; columns = c; denominator = d }))
-    (Refused Cell))
-    (Refused Cells))
+    (Refused LargeCell))
+    (Refused CellCount))
     (Refused Denominator))
     (Refused Size)

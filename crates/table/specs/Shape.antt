@@ -3,21 +3,22 @@ use mathlib.Core.Path.{_≡_}
 use mathlib.Core.List.{List}
 use Prim.Native.Nat.{ℕ, _+_, _*_, _<_, _≤_}
 use lib.ListN.{length, getD}
+use Rattle.table.specs.Table.{maxRows, maxColumns, maxDenominator, maxExpected}
 
 -- r by c cells, within the bounds
 pub record Shape (r c : ℕ) (g : List ℕ) : Type 0 where
   pub some-rows : 1 ≤ r
-  pub rows : r ≤ 12
+  pub rows : r ≤ maxRows
   pub some-columns : 1 ≤ c
-  pub columns : c ≤ 12
+  pub columns : c ≤ maxColumns
   pub cells : length g ≡ r * c
 
 -- an accepted table
 pub record IsTable (r c d : ℕ) (g : List ℕ) : Type 0 where
   pub shape : Shape r c g
   pub some-denominator : 1 ≤ d
-  pub denominator : d ≤ 65535
-  pub within : (k : ℕ) → k < length g → getD g k 0 ≤ 1000 * d
+  pub denominator : d ≤ maxDenominator
+  pub within : (k : ℕ) → k < length g → getD g k 0 ≤ maxExpected * d
 
 -- `count` places from `start` on, `step` apart, lie among n cells
 pub record Reach (start step count n : ℕ) : Type 0 where

@@ -1,5 +1,5 @@
 -- Tables and their entries (01, "From table to campaign"). Assumes nothing.
-use mathlib.Core.Bool.{Bool, cond, _&&_}
+use mathlib.Core.Bool.{cond}
 use mathlib.Core.List.{List, [], _∷_, _++_, map}
 use Prim.Native.Nat.{ℕ, _+_, _*_, _/_, _%_}
 use lib.ListN.{getD}
@@ -22,6 +22,10 @@ maxDenominator = 65535
 abbrev pub maxExpected : ℕ
 maxExpected = 1000
 
+-- the largest grand total: 144 cells of 1000 · 65,535
+abbrev pub maxEntry : ℕ
+maxEntry = 9437040000
+
 -- "A table has r rows, c columns, a denominator D and r·c cells g, whole numbers held in row order." The place of a cell is its index in that order.
 -- The places from `start` on, `step` apart: every entry is a sum over such places.
 abbrev pub places : ℕ → ℕ → ℕ → List ℕ
@@ -39,11 +43,11 @@ columnPlaces r c j = places j c r
 abbrev pub allPlaces : ℕ → ℕ → List ℕ
 allPlaces r c = places 0 1 (r * c)
 
--- "Entries of a table are its cells, row totals, column totals and grand total, in this order": the places that each is the sum of.
--- (An entry that is no cell is a marginal total of the field's two-way tables.)
+-- the places of each cell, row total and column total, without the grand total: an opened plan is held to these
 unfoldable pub lines : ℕ → ℕ → List (List ℕ)
 lines r c = tabulate (r * c) cellPlaces ++ (tabulate r (rowPlaces c) ++ tabulate c (columnPlaces r c))
 
+-- "Entries of a table are its cells, row totals, column totals and grand total, in this order": the places that each is the sum of
 unfoldable pub entryPlaces : ℕ → ℕ → List (List ℕ)
 entryPlaces r c = lines r c ++ (allPlaces r c ∷ [])
 
@@ -51,10 +55,11 @@ entryPlaces r c = lines r c ++ (allPlaces r c ∷ [])
 unfoldable pub total : List ℕ → List ℕ → ℕ
 total g s = sum (map (λ k. getD g k 0) s)
 
+-- the entries themselves
 unfoldable pub entries : ℕ → ℕ → List ℕ → List ℕ
 entries r c g = map (total g) (entryPlaces r c)
 
--- The one layout in which all layers hold a table's entries: a grid of 13 by 13 in row order, cells in rows and columns below 12,
+-- The layout in which rounding and planning hold a table's entries: a grid of 13 by 13 in row order, cells in rows and columns below 12,
 -- row totals in column 12, column totals in row 12, the grand total in both, and 0 where the table has no entry.
 unfoldable pub gridPlaces : ℕ → ℕ → ℕ → ℕ → List ℕ
 gridPlaces r c p q =

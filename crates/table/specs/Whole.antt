@@ -1,4 +1,4 @@
--- Whole part, remainder and the rounding of one entry (01, "From table to campaign" and "The rounding"). Assumes nothing.
+-- Rounding down and up, whole entries and the rounding of one entry (01, "From table to campaign" and "The rounding"). Assumes nothing.
 use mathlib.Core.Bool.{Bool, cond, not, _&&_, _||_}
 use Prim.Native.Nat.{ℕ, _+_, _/_, _%_}
 use lib.Dec.{eqb}

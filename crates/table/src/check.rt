@@ -1,6 +1,6 @@
 // The check of a table's numbers: refusals 1 to 4.
 ghost use mathlib.Core.Path.{_≡_};
-ghost use Prim.Native.Nat.{ℕ, _+_, _*_, _<_, _≤_};
+ghost use Prim.Native.Nat.{_*_, _<_, _≤_};
 ghost use Rattle.table.specs.Check.{upTo, checkOf, cellsWithin};
 use crate::Checked;
 use crate::Refusal;
@@ -46,10 +46,10 @@ pub fn check(rows: u32, columns: u32, denominator: u32, cells: &[u32]) -> Checke
         return Checked::Refused(Refusal::Denominator);
     }
     if cells.len() != (rows as usize) * (columns as usize) {
-        return Checked::Refused(Refusal::Cells);
+        return Checked::Refused(Refusal::CellCount);
     }
     if !cells_within(denominator, cells) {
-        return Checked::Refused(Refusal::Cell);
+        return Checked::Refused(Refusal::LargeCell);
     }
     Checked::Accepted(Table {
         rows: rows as usize,

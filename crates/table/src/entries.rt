@@ -1,6 +1,6 @@
 // The entries of a table.
 ghost use mathlib.Core.Path.{_≡_};
-ghost use Prim.Native.Nat.{ℕ, _+_, _*_, _<_, _≤_};
+ghost use Prim.Native.Nat.{_+_, _*_, _<_};
 ghost use lib.ListN.{length};
 ghost use Rattle.table.specs.Table.{places, total, gridAt, gridOf};
 ghost use Rattle.table.specs.Shape.{Shape, Reach};

@@ -32,15 +32,25 @@ impl Table {
 
 // Why a call refuses its input, in the order of the refusals' numbers.
 pub enum Refusal {
+    // rows or columns not from 1 to 12
     Size,
+    // the denominator not from 1 to 65,535
     Denominator,
-    Cells,
-    Cell,
+    // the cells are not rows times columns many
+    CellCount,
+    // a cell above 1000 times the denominator
+    LargeCell,
+    // form, zero field, sizes, an offset or the length of a stored plan wrong
     Layout,
+    // another condition of opening unmet
     Content,
+    // a lent buffer shorter than its result or record
     Buffer,
+    // a draw number not below the denominator
     Number,
+    // the record does not fit the plan
     Record,
+    // the number is taken
     Taken,
 }
 
@@ -63,8 +73,8 @@ pub fn number(r: Refusal) -> u32
     match r {
         Refusal::Size => 1,
         Refusal::Denominator => 2,
-        Refusal::Cells => 3,
-        Refusal::Cell => 4,
+        Refusal::CellCount => 3,
+        Refusal::LargeCell => 4,
         Refusal::Layout => 5,
         Refusal::Content => 6,
         Refusal::Buffer => 7,

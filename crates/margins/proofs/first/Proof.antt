@@ -2,7 +2,7 @@ use Rattle.margins.proofs.first.Statement.{statement}
 use Rattle.margins.proofs.first.Tie as tie
 use borrow.Author.Needs.{needs}
 use native.Mathlib.Omega.{arith}
-use Rattle.margins.proofs.Answers.{places-start, feasible-start, first-matrix}
+use Rattle.margins.proofs.FirstMatrices.{places-start, feasible-start, first-matrix}
 
 copy-of-requires : tie.Need-copy-of-requires
 copy-of-requires c κs = search needs

@@ -5,7 +5,7 @@ use native.Mathlib.Omega.{arith}
 use mathlib.Core.Path.{refl}
 use Prim.Native.Nat.{_*_, _-_, _≤_}
 use Rattle.margins.specs.Grid.{BytesOf}
-use Rattle.margins.proofs.Answers.{bytes-as}
+use Rattle.margins.proofs.FirstMatrices.{bytes-as}
 
 abbrev Inv-loop : tie.InvT-loop
 Inv-loop down one b₀ p₀ b p = (p ≤ 13) × BytesOf down one (p * 13) b

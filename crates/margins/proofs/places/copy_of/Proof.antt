@@ -5,7 +5,7 @@ use native.Mathlib.Omega.{arith}
 use mathlib.Core.Path.{_≡_, refl}
 use Prim.Native.Nat.{ℕ, _-_, _≤_, _<_}
 use lib.ListN.{length, getD, length-set}
-use Rattle.margins.proofs.Writes.{write-next}
+use Rattle.table.proofs.Lists.{each-more}
 
 abbrev Inv-loop : tie.InvT-loop
 Inv-loop numbers r₀ j₀ r j = (j ≤ 13) × ((length r ≡ 13) × ((i : ℕ) → i < j → getD r i 0 ≡ getD numbers i 0))
@@ -31,7 +31,7 @@ loop-less c = search needs
 loop-again : tie.Need-loop-again Inv-loop μ-loop
 loop-again c =
     let l = c .before .before .loop in
-    (search needs, (simp length-set (l .inv .1 .0), write-next (λ i x. x ≡ getD (c .before .before .before .args .numbers .now) i 0) (l .r) (l .j) _ (omega arith) (l .inv .1 .1) refl))
+    (search needs, (simp length-set (l .inv .1 .0), each-more (λ i x. x ≡ getD (c .before .before .before .args .numbers .now) i 0) (l .r) (l .j) _ (omega arith) (l .inv .1 .1) refl))
 
 returns : tie.Need-returns Inv-loop μ-loop
 returns c = let l = c .before .loop in record { len = l .inv .1 .0; is = λ j h. l .inv .1 .1 j (omega arith) }

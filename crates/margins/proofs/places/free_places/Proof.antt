@@ -7,7 +7,7 @@ use Prim.Native.Nat.{ℕ, _-_, _≤_, _<_}
 use lib.ListN.{length, length-set}
 use Rattle.margins.specs.Matrix.{at}
 use Rattle.margins.specs.Set.{on, has}
-use Rattle.margins.proofs.Writes.{write-next}
+use Rattle.table.proofs.Lists.{each-more}
 
 abbrev Inv-loop : tie.InvT-loop
 Inv-loop cap up₀ p₀ up p = (p ≤ 13) × ((length up ≡ 13) × ((i : ℕ) → i < p → (q : ℕ) → q < 13 → has up i q ≡ at cap i q))
@@ -43,7 +43,7 @@ loop-again c =
       search needs,
       (
         simp length-set (l .inv .1 .0),
-        write-next (λ i x. (q : ℕ) → q < 13 → on x q ≡ at (s .args .cap .now) i q) (l .up) (l .p) _ (omega arith) (l .inv .1 .1)
+        each-more (λ i x. (q : ℕ) → q < 13 → on x q ≡ at (s .args .cap .now) i q) (l .up) (l .p) _ (omega arith) (l .inv .1 .1)
             (λ q h. omega (arith, c .nonzero .ensures .is q h, s .pre .0 .bit (l .p) q (omega arith) h)),
       ),
     )

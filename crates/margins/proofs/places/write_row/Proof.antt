@@ -4,7 +4,7 @@ use borrow.Author.Needs.{needs}
 use native.Mathlib.Omega.{arith}
 use Prim.Native.Nat.{_+_, _*_, _-_, _≤_}
 use Rattle.margins.specs.Grid.{BytesOf}
-use Rattle.margins.proofs.Answers.{bytes-next, bytes-as}
+use Rattle.margins.proofs.FirstMatrices.{bytes-next, bytes-as}
 
 abbrev Inv-loop : tie.InvT-loop
 Inv-loop down one row b₀ fixed q₀ b q = (q ≤ 13) × BytesOf down one (row * 13 + q) b

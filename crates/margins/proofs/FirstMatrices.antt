@@ -10,7 +10,7 @@ use Rattle.table.proofs.Sums.{sum-ext, sum-zero}
 use Rattle.margins.specs.Matrix.{at, Caps, Matrix, Solvable, FirstMatrix}
 use Rattle.margins.specs.Set.{on, has}
 use Rattle.margins.specs.Grid.{Grid, gridOf, start, Places, rowSum, colSum, Flow, Feasible, Filled, First, FreeOf, CopyOf, BytesOf}
-use Rattle.margins.proofs.Writes.{write-next}
+use Rattle.table.proofs.Lists.{each-more}
 use Rattle.margins.proofs.Members.{on-zero}
 use Rattle.margins.proofs.Fills.{no-lack}
 
@@ -19,7 +19,7 @@ pub bytes-next : {down one b : List ℕ} {row q v : ℕ} → row < 13 → q < 13
     → BytesOf down one (row * 13 + (q + 1)) (set b (row * 13 + q) v)
 bytes-next {down} {one} {b} {row} {q} {v} hr hq a e = record {
   len = length-set b (row * 13 + q) v ∙ a .len;
-  is = λ i h. write-next (λ i x. x ≡ has down (i % 13) (i / 13) + has one (i / 13) (i % 13)) b (row * 13 + q) v (omega (arith, a .len)) (a .is) here i (omega arith);
+  is = λ i h. each-more (λ i x. x ≡ has down (i % 13) (i / 13) + has one (i / 13) (i % 13)) b (row * 13 + q) v (omega (arith, a .len)) (a .is) here i (omega arith);
 }
   where
     here : v ≡ has down ((row * 13 + q) % 13) ((row * 13 + q) / 13) + has one ((row * 13 + q) / 13) ((row * 13 + q) % 13)
