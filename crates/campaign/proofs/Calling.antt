@@ -15,7 +15,7 @@ use Rattle.table.specs.declared.Answer.{Answer}
 use Rattle.table.specs.declared.Answer.the-variants.{Done, Refused}
 use Rattle.table.specs.declared.Refusal.{Refusal}
 use Rattle.table.specs.declared.Refusal.the-variants.{Layout, Content, Buffer, Number, Record, Taken}
-use Rattle.table.proofs.Lists.{and-left, and-right, tabulate-ext}
+use Rattle.table.proofs.Lists.{and-left, and-right, tabulate-ext, tabulate-all}
 use Rattle.stored.specs.declared.Sizes.{Sizes}
 use Rattle.stored.specs.declared.Opened.{Opened}
 use Rattle.stored.specs.declared.Opened.the-variants as opened
@@ -31,7 +31,6 @@ use Rattle.campaign.specs.Record.{CampaignRecord, bitOf, bitBytes, cellC
 use Rattle.campaign.specs.Calls.{recordOf, Leaves}
 use Rattle.campaign.specs.Parts.{ifOpened, openFor, orRefused, Addable, Fitted}
 use Rattle.campaign.specs.declared.Step.{Step}
-use Rattle.campaign.proofs.Tests.{all-below}
 use Rattle.campaign.proofs.Buffers.{written-at, written-length}
 use Rattle.campaign.proofs.Opened.{sound}
 use Rattle.campaign.proofs.Numbers.{array-length}
@@ -247,7 +246,7 @@ module _ (p : Plan) (s : CampaignRecord) (f : fits p s ≡ true) where
   fit-tally : (i : ℕ) → i < cellCount p → getD (s .tally) i 0 ≡ takenSum p (s .bits) i
   unfolding fits
   fit-tally i l =
-      eqb-true _ _ (all-below (λ j. eqb (getD (s .tally) j 0) (takenSum p (s .bits) j)) (cellCount p) (and-right (spare && count) _ f) i l)
+      eqb-true _ _ (tabulate-all (λ j. eqb (getD (s .tally) j 0) (takenSum p (s .bits) j)) (cellCount p) (λ i. i) (and-right (spare && count) _ f) i l)
 
 -- an accepted draw
 module _ {b : List ℕ} {s : CampaignRecord} {d room : ℕ} {t : Sizes} (a : Accepted b s d room t) where

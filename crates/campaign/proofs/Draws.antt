@@ -6,18 +6,18 @@ use Prim.Native.Nat.{ℕ, _+_}
 use native.Mathlib.Nat.{add-zero}
 use native.Mathlib.Omega.{arith}
 use lib.Dec.{eqb}
+use Rattle.table.proofs.Sums.{list-append}
 use Rattle.table.specs.Lists.{sum}
 use Rattle.table.specs.declared.Answer.{Answer}
 use Rattle.table.specs.declared.Answer.the-variants.{Done, Refused}
 use Rattle.table.specs.declared.Refusal.{Refusal}
 use Rattle.campaign.specs.Claim.{Made, isDone, used, overAccepted}
-use Rattle.campaign.proofs.Sums.{list-append}
 
-used-more : (h : List Made) (t : Made) (d : ℕ) → used (h ++ (t ∷ [])) d ≡ (used h d || isDone (t .answer) && eqb (t .number) d)
+used-more : (h : List Made) (t : Made) (d : ℕ) → used (h ++ (t ∷ [])) d ≡ (used h d || isDone (t .answer) && eqb (t .asked .number) d)
 unfolding used
-used-more [] t d = or-false (isDone (t .answer) && eqb (t .number) d)
+used-more [] t d = or-false (isDone (t .answer) && eqb (t .asked .number) d)
 used-more (u ∷ h) t d =
-    let first : Bool = isDone (u .answer) && eqb (u .number) d in
+    let first : Bool = isDone (u .answer) && eqb (u .asked .number) d in
     ap (λ (x : Bool). first || x) (used-more h t d) ∙ sym (or-assoc first (used h d) _)
 
 over-more : (f : Made → ℕ) (h : List Made) (t : Made) → overAccepted f (h ++ (t ∷ [])) ≡ overAccepted f h + cond (isDone (t .answer)) (f t) 0
@@ -26,15 +26,15 @@ over-more f h t = omega (arith, list-append (λ x. cond (isDone (x .answer)) (f 
 
 module _ (h : List Made) (t : Made) where
   module _ (a : t .answer ≡ Done) where
-    pub used-accepted : (d : ℕ) → used (h ++ (t ∷ [])) d ≡ (used h d || eqb (t .number) d)
-    used-accepted d = used-more h t d ∙ ap (λ (x : Answer). used h d || isDone x && eqb (t .number) d) a
+    pub used-accepted : (d : ℕ) → used (h ++ (t ∷ [])) d ≡ (used h d || eqb (t .asked .number) d)
+    used-accepted d = used-more h t d ∙ ap (λ (x : Answer). used h d || isDone x && eqb (t .asked .number) d) a
 
     pub over-accepted : (f : Made → ℕ) → overAccepted f (h ++ (t ∷ [])) ≡ overAccepted f h + f t
     over-accepted f = over-more f h t ∙ ap (λ (x : Answer). overAccepted f h + cond (isDone x) (f t) 0) a
 
   module _ {x : Refusal} (a : t .answer ≡ Refused x) where
     pub used-refused : (d : ℕ) → used (h ++ (t ∷ [])) d ≡ used h d
-    used-refused d = used-more h t d ∙ ap (λ (y : Answer). used h d || isDone y && eqb (t .number) d) a ∙ or-false (used h d)
+    used-refused d = used-more h t d ∙ ap (λ (y : Answer). used h d || isDone y && eqb (t .asked .number) d) a ∙ or-false (used h d)
 
     pub over-refused : (f : Made → ℕ) → overAccepted f (h ++ (t ∷ [])) ≡ overAccepted f h
     over-refused f = over-more f h t ∙ ap (λ (y : Answer). overAccepted f h + cond (isDone y) (f t) 0) a ∙ add-zero (overAccepted f h)

@@ -1,4 +1,3 @@
-pub mod Sums
 pub mod Tests
 pub mod Buffers
 pub mod Bits

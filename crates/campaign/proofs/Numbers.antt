@@ -10,12 +10,11 @@ use lib.Dec.{ltb}
 use borrow.Author.Tests.{lt-ltb, le-ltb, ltb-false}
 use Rattle.table.specs.Lists.{sum, sumTo}
 use Rattle.table.specs.Table.{total}
-use Rattle.table.proofs.Sums.{sum-ext}
+use Rattle.table.proofs.Sums.{sum-ext, sum-add-range, sum-same, list-add, list-ext, list-zero}
 use Rattle.stored.specs.Plan.{Weighted, Plan, arrayFor}
 use Rattle.stored.specs.Open.{heldTo, weighted}
 use Rattle.campaign.specs.Record.{cellCount}
 use Rattle.campaign.proofs.Tests.{by-test}
-use Rattle.campaign.proofs.Sums.{sum-split, sum-same, list-add, list-ext, list-zero}
 use Rattle.campaign.proofs.Opened.{Between, Sound}
 
 -- the array that belongs to a number below the sum of the weights is one of the list
@@ -45,7 +44,7 @@ pub numbers-sum : (f : List ℕ → ℕ) (l : List Weighted)
 unfolding sum arrayFor sumTo
 numbers-sum f [] = refl
 numbers-sum f (a ∷ l) =
-    sum-split (a .weight) _ _
+    sum-add-range (a .weight) _ _
     ∙ ap₂ _+_
     (sum-ext (a .weight) _ _ (λ d h. rw (lt-ltb d (a .weight) h)) ∙ sum-same (a .weight) (f (a .counts)))
     (sum-ext (sum (map (λ x. x .weight) l)) _ _ (λ j h. rw (le-ltb (a .weight + j) (a .weight) (omega arith), add-sub-cancel-left)) ∙ numbers-sum f l)

@@ -1,23 +1,21 @@
 -- What a plan that opens is known to meet. Assumes nothing.
-use mathlib.Core.Path.{_≡_, refl, _∙_}
-use mathlib.Core.Bool.{Bool, true, false, cond, not, _&&_, _||_, false≢true}
+use mathlib.Core.Path.{_≡_}
+use mathlib.Core.Bool.{Bool, true, _&&_}
 use mathlib.Core.List.{List, map, List·Memᴰ as Member}
-use Prim.Native.Nat.{ℕ, _+_, _<_, _≤_}
-use native.Mathlib.Omega.{arith}
+use Prim.Native.Nat.{ℕ, _<_, _≤_}
 use lib.ListN.{length, getD}
 use lib.Dec.{leb, eqb}
 use borrow.Author.Tests.{eqb-true}
 use Rattle.table.specs.Lists.{tabulate, sum, all}
 use Rattle.table.specs.Table.{total}
-use Rattle.table.specs.Whole.{down, up, whole, roundsTo}
+use Rattle.table.specs.Whole.{down, up, roundsTo}
 use Rattle.table.specs.Check.{cellsWithin}
 use Rattle.table.proofs.Roundings.{rounds-low, rounds-high}
-use Rattle.table.proofs.Lists.{and-left, and-right, length-tabulate}
+use Rattle.table.proofs.Lists.{and-left, and-right, length-tabulate, tabulate-all, all-member, tabulate-member}
 use Rattle.stored.specs.Plan.{Weighted, Plan}
 use Rattle.stored.specs.Form.{decode, laidOut}
 use Rattle.stored.specs.Open.{heldTo, held, weighted, consistent, opens}
 use Rattle.campaign.specs.Record.{cellCount}
-use Rattle.campaign.proofs.Tests.{all-member, tabulate-member, all-below}
 
 -- a count lies between the entry over w rounded down and that rounded up
 abbrev pub Between : ℕ → ℕ → ℕ → Type 0
@@ -76,5 +74,5 @@ module _ (b : List ℕ) (o : opens b ≡ true) where
         counts = counts-many b;
         weights = eqb-true _ _ (c .0);
         entry = λ a m s t. rounded _ _ _ (all-member _ (all-member (held p) (c .1) m) t);
-        cell = λ i h. eqb-true _ _ (all-below _ (cellCount p) (c .2) i h);
+        cell = λ i h. eqb-true _ _ (tabulate-all _ (cellCount p) (λ i. i) (c .2) i h);
       }

@@ -14,7 +14,7 @@ use Rattle.table.specs.declared.Refusal.the-variants.{Buffer, Number, Taken}
 use Rattle.stored.specs.Form.{decode}
 use Rattle.stored.specs.Open.{opens, drawAnswer, drawnArray}
 use Rattle.campaign.specs.Record.{CampaignRecord, bitOf, cellCount, roomFor, startAnswer, campaignAnswer, taking}
-use Rattle.campaign.specs.Claim.{Asked, Made, made, draws, lastRecord, used, expected, DrawClaim}
+use Rattle.campaign.specs.Claim.{Asked, Made, made, draws, lastRecord, used, answerDue, DrawClaim}
 use Rattle.campaign.proofs.Tests.{under-test}
 use Rattle.campaign.proofs.Buffers.{written-front}
 use Rattle.campaign.proofs.Opened.{sound, laid-out, is-consistent}
@@ -50,15 +50,15 @@ module _ (b : List ℕ) (o : opens b ≡ true) (s₀ : CampaignRecord) (room : r
     bit-test l = rw (holds .claim .bits (x .number) (ltb-true _ _ l)) (unset (used h (x .number)))
 
     -- the answer is the one that 01 says, by the draws before
-    answers : made b s x .answer ≡ expected (decode b) h (made b s x)
-    unfolding made campaignAnswer expected
+    answers : made b s x .answer ≡ answerDue (decode b) h x
+    unfolding made campaignAnswer answerDue
     answers = rw (laid-out b o, is-consistent b o, room-now, fits-run holds)
         (ap (λ (a : Answer). cond (leb (cellCount (decode b)) (length (x .buffer))) a (Refused Buffer))
         (under-test (ltb (x .number) (decode b .denominator)) (Refused Number) bit-test))
 
     tests : made b s x .answer ≡ Done
         → (leb (cellCount (decode b)) (length (x .buffer)) ≡ true) × (ltb (x .number) (decode b .denominator) ≡ true) × (used h (x .number) ≡ false)
-    unfolding made expected
+    unfolding made answerDue
     tests e = passed _ _ _ (sym answers ∙ e)
 
     plain-draw : made b s x .answer ≡ Done → drawAnswer b (x .number) (length (x .buffer)) ≡ Done
@@ -113,7 +113,7 @@ module _ (b : List ℕ) (o : opens b ≡ true) (s₀ : CampaignRecord) (room : r
       let rest : draws b (made b s x .left) l ≡ earlier ++ (t ∷ later) = cc in
       subst (λ (k : Made). DrawClaim b (h ++ (k ∷ earlier)) t) first (rw append-assoc at (run-each (step holds x) l earlier t later rest))
 
-pub run-asked : (b : List ℕ) (s : CampaignRecord) (l : List Asked) → map (λ t. record { number = t .number; buffer = t .buffer }) (draws b s l) ≡ l
+pub run-asked : (b : List ℕ) (s : CampaignRecord) (l : List Asked) → map (λ t. t .asked) (draws b s l) ≡ l
 unfolding draws made
 run-asked b s [] = refl
 run-asked b s (x ∷ l) = ap (λ (r : List Asked). x ∷ r) (run-asked b (made b s x .left) l)

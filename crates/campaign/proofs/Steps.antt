@@ -12,13 +12,12 @@ use Rattle.table.specs.Lists.{tabulate, sum, sumTo}
 use Rattle.table.specs.Table.{total}
 use Rattle.table.specs.declared.Answer.the-variants.{Done, Refused}
 use Rattle.table.specs.declared.Refusal.{Refusal}
-use Rattle.table.proofs.Lists.{and-left, and-right, length-tabulate, getD-tabulate}
-use Rattle.table.proofs.Sums.{sum-ext, sum-zero}
+use Rattle.table.proofs.Lists.{and-left, and-right, length-tabulate, getD-tabulate, all-tabulate}
+use Rattle.table.proofs.Sums.{sum-ext, sum-zero, sum-one-more}
 use Rattle.stored.specs.Plan.{Plan, arrayFor}
 use Rattle.campaign.specs.Record.{CampaignRecord, bitOf, bitBytes, cellCount, spareClear, takenSum, fits, roomFor, started, taking}
 use Rattle.campaign.specs.Claim.{Made, used, overAccepted, RecordClaim}
-use Rattle.campaign.proofs.Sums.{sum-one-more}
-use Rattle.campaign.proofs.Tests.{test-times, test-or, below-all}
+use Rattle.campaign.proofs.Tests.{test-times, test-or}
 use Rattle.campaign.proofs.Buffers.{written-at, written-length, written-beyond}
 use Rattle.campaign.proofs.Bits.{bit-set, bit-clear}
 use Rattle.campaign.proofs.Numbers.{total-one}
@@ -46,9 +45,9 @@ module _ {p : Plan} {s₀ s : CampaignRecord} {h : List Made} (holds : Holds p s
   unfolding fits
   fits-run =
       let spare : spareClear (p .denominator) (s .bits) ≡ true =
-      below-all _ _ (λ i l. eq-eqb _ _ (holds .claim .spare (p .denominator + i) (omega arith) (omega arith))) in
+      all-tabulate _ _ (λ i. i) (λ i l. eq-eqb _ _ (holds .claim .spare (p .denominator + i) (omega arith) (omega arith))) in
       let count : eqb (s .taken) (sumTo (p .denominator) (bitOf (s .bits))) ≡ true = eq-eqb _ _ count-bits in
-      let tally = below-all (λ i. eqb (getD (s .tally) i 0) (takenSum p (s .bits) i)) (cellCount p) (λ i l. eq-eqb _ _ (tally-bits i l)) in
+      let tally = all-tabulate (λ i. eqb (getD (s .tally) i 0) (takenSum p (s .bits) i)) (cellCount p) (λ i. i) (λ i l. eq-eqb _ _ (tally-bits i l)) in
       rw (spare, count, tally)
 
   -- a refused draw changes nothing
@@ -77,40 +76,40 @@ module _ (p : Plan) (s : CampaignRecord) (room : roomFor p s ≡ true) where
 
 -- an accepted draw of an unused number
 module _ {p : Plan} {s₀ s : CampaignRecord} {h : List Made} (holds : Holds p s₀ h s) (room : roomFor p s₀ ≡ true) (t : Made)
-    (a : t .answer ≡ Done) (below : t .number < p .denominator) (new : used h (t .number) ≡ false)
-    (wrote : take (cellCount p) (t .result) ≡ arrayFor (p .arrays) (t .number)) where
-  set-bit : (e : ℕ) → bitOf (taking p (t .number) s .bits) e ≡ cond (eqb (t .number) e) 1 (bitOf (s .bits) e)
+    (a : t .answer ≡ Done) (below : t .asked .number < p .denominator) (new : used h (t .asked .number) ≡ false)
+    (wrote : take (cellCount p) (t .result) ≡ arrayFor (p .arrays) (t .asked .number)) where
+  set-bit : (e : ℕ) → bitOf (taking p (t .asked .number) s .bits) e ≡ cond (eqb (t .asked .number) e) 1 (bitOf (s .bits) e)
   unfolding taking
-  set-bit e = bit-set (s .bits) (t .number) e (omega (arith, room-bits p s₀ room, holds .claim .bits-length))
-      (holds .claim .bits (t .number) below ∙ ap (λ (u : Bool). cond u 1 0) new)
+  set-bit e = bit-set (s .bits) (t .asked .number) e (omega (arith, room-bits p s₀ room, holds .claim .bits-length))
+      (holds .claim .bits (t .asked .number) below ∙ ap (λ (u : Bool). cond u 1 0) new)
 
-  claim-accepted : RecordClaim p s₀ (h ++ (t ∷ [])) (taking p (t .number) s)
+  claim-accepted : RecordClaim p s₀ (h ++ (t ∷ [])) (taking p (t .asked .number) s)
   unfolding taking
   claim-accepted =
-      let c : List ℕ = tabulate (cellCount p) (λ i. getD (s .tally) i 0 + getD (arrayFor (p .arrays) (t .number)) i 0) in
+      let c : List ℕ = tabulate (cellCount p) (λ i. getD (s .tally) i 0 + getD (arrayFor (p .arrays) (t .asked .number)) i 0) in
       let ce : length c ≡ cellCount p = length-tabulate _ _ in
       record {
         count = ap (λ (m : ℕ). m + 1) (holds .claim .count) ∙ sym (over-accepted h t a _);
-        bits = λ e l. set-bit e ∙ rw (holds .claim .bits e l, used-accepted h t a e) (test-or (used h e) (eqb (t .number) e));
-        spare = λ e l m. set-bit e ∙ rw (ne-eqb (t .number) e (λ q. omega arith)) (holds .claim .spare e l m);
+        bits = λ e l. set-bit e ∙ rw (holds .claim .bits e l, used-accepted h t a e) (test-or (used h e) (eqb (t .asked .number) e));
+        spare = λ e l m. set-bit e ∙ rw (ne-eqb (t .asked .number) e (λ q. omega arith)) (holds .claim .spare e l m);
         tally = λ i l.
-            written-at c (s .tally) ce i l ∙ getD-tabulate (cellCount p) (λ j. getD (s .tally) j 0 + getD (arrayFor (p .arrays) (t .number)) j 0) i 0 l
+            written-at c (s .tally) ce i l ∙ getD-tabulate (cellCount p) (λ j. getD (s .tally) j 0 + getD (arrayFor (p .arrays) (t .asked .number)) j 0) i 0 l
             ∙ ap₂ _+_ (holds .claim .tally i l) (sym (ap (λ (x : List ℕ). total x (i ∷ [])) wrote ∙ total-one _ i))
             ∙ sym (over-accepted h t a _);
-        bits-beyond = drop-set-lt (bitBytes (p .denominator)) (s .bits) (t .number / 8) _ (omega arith) ∙ holds .claim .bits-beyond;
+        bits-beyond = drop-set-lt (bitBytes (p .denominator)) (s .bits) (t .asked .number / 8) _ (omega arith) ∙ holds .claim .bits-beyond;
         tally-beyond = written-beyond c (s .tally) ce ∙ holds .claim .tally-beyond;
-        bits-length = length-set (s .bits) (t .number / 8) _ ∙ holds .claim .bits-length;
+        bits-length = length-set (s .bits) (t .asked .number / 8) _ ∙ holds .claim .bits-length;
         tally-length = written-length c (s .tally) ce (omega (arith, room-tally p s₀ room, holds .claim .tally-length)) ∙ holds .claim .tally-length;
       }
 
-  pub step-accepted : Holds p s₀ (h ++ (t ∷ [])) (taking p (t .number) s)
+  pub step-accepted : Holds p s₀ (h ++ (t ∷ [])) (taking p (t .asked .number) s)
   step-accepted = record {
     claim = claim-accepted;
     spent = λ f.
         over-accepted h t a _ ∙ ap₂ _+_ (holds .spent f) (ap f wrote)
-        ∙ sym (sum-one-more (p .denominator) _ _ (t .number) _ below
-        (rw (used-accepted h t a (t .number), new, eq-eqb (t .number) (t .number) refl) (omega arith))
-        (λ j l o. rw (used-accepted h t a j, ne-eqb (t .number) j (λ q. o (sym q)), or-false)));
+        ∙ sym (sum-one-more (p .denominator) _ _ (t .asked .number) _ below
+        (rw (used-accepted h t a (t .asked .number), new, eq-eqb (t .asked .number) (t .asked .number) refl) (omega arith))
+        (λ j l o. rw (used-accepted h t a j, ne-eqb (t .asked .number) j (λ q. o (sym q)), or-false)));
   }
 
 -- a start clears the record

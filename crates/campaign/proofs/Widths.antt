@@ -5,10 +5,9 @@ use Prim.Native.Nat.{ℕ, zero, suc, _+_, _-_, _*_, _<_, _≤_}
 use native.Mathlib.Omega.{arith}
 use lib.ListN.{getD}
 use Rattle.table.specs.Lists.{sumTo}
-use Rattle.table.proofs.Sums.{sum-ext, sum-add, sum-term}
+use Rattle.table.proofs.Sums.{sum-ext, sum-add, sum-term, sum-same}
 use Rattle.stored.specs.Plan.{Plan, arrayFor}
 use Rattle.campaign.specs.Record.{bitOf, takenSum}
-use Rattle.campaign.proofs.Sums.{sum-same}
 use Rattle.campaign.proofs.Bits.{bit-le}
 use Rattle.campaign.proofs.Opened.{Sound}
 use Rattle.campaign.proofs.Numbers.{total-one, planned-sum}

@@ -23,11 +23,10 @@ pub record Asked : Type 0 where
   pub number : ℕ
   pub buffer : List ℕ
 
--- a draw that was made: the number, the record and the buffer that it was given, its answer, and the record and the buffer as it left them
+-- a draw that was made: what was asked for, the record before it, its answer, and the record and the buffer as it left them
 pub record Made : Type 0 where
-  pub number : ℕ
+  pub asked : Asked
   pub given : CampaignRecord
-  pub buffer : List ℕ
   pub answer : Answer
   pub left : CampaignRecord
   pub result : List ℕ
@@ -36,9 +35,8 @@ unfoldable pub made : List ℕ → CampaignRecord → Asked → Made
 made b s x =
     let a = campaignAnswer b (x .number) s (length (x .buffer)) in
     record {
-      number = x .number;
+      asked = x;
       given = s;
-      buffer = x .buffer;
       answer = a;
       left = after a (taking (decode b) (x .number) s) s;
       result = after a (written (drawnArray b (x .number)) (x .buffer)) (x .buffer);
@@ -61,7 +59,7 @@ isDone (Refused x) = false
 -- "A number below D is used from its accepted draw on, and unused until then"
 unfoldable pub used : List Made → ℕ → Bool
 used [] d = false
-used (t ∷ l) d = isDone (t .answer) && eqb (t .number) d || used l d
+used (t ∷ l) d = isDone (t .answer) && eqb (t .asked .number) d || used l d
 
 -- a number of each accepted draw, added up
 unfoldable pub overAccepted : (Made → ℕ) → List Made → ℕ
@@ -80,22 +78,23 @@ unfoldable pub unused : Plan → List Made → List ℕ → ℕ
 unused p l s = sumTo (p .denominator) (λ d. cond (used l d) 0 (total (arrayFor (p .arrays) d) s))
 
 -- "A draw returns 7 if its buffer is too short for the array, else 8 if its number is not below D, else 10 if it is used; otherwise it is accepted."
-unfoldable pub expected : Plan → List Made → Made → Answer
-expected p earlier t =
-    cond (leb (cellCount p) (length (t .buffer)))
-    (cond (ltb (t .number) (p .denominator))
-    (cond (used earlier (t .number)) (Refused Taken) Done)
+unfoldable pub answerDue : Plan → List Made → Asked → Answer
+answerDue p earlier x =
+    cond (leb (cellCount p) (length (x .buffer)))
+    (cond (ltb (x .number) (p .denominator))
+    (cond (used earlier (x .number)) (Refused Taken) Done)
     (Refused Number))
     (Refused Buffer)
 
 -- what holds of one draw of the list, with the draws before it
 pub record DrawClaim (b : List ℕ) (earlier : List Made) (t : Made) : Type 0 where
   -- who is accepted
-  pub answer : t .answer ≡ expected (decode b) earlier t
+  pub answer : t .answer ≡ answerDue (decode b) earlier (t .asked)
   -- an accepted draw wrote the array that belongs to its number, which is what the plain draw gives, and left its buffer's rest
-  pub wrote : t .answer ≡ Done → (drawAnswer b (t .number) (length (t .buffer)) ≡ Done) × (t .result ≡ written (drawnArray b (t .number)) (t .buffer))
+  pub wrote : t .answer ≡ Done
+      → (drawAnswer b (t .asked .number) (length (t .asked .buffer)) ≡ Done) × (t .result ≡ written (drawnArray b (t .asked .number)) (t .asked .buffer))
   -- a refused draw left buffer and record as they were
-  pub kept : (x : Refusal) → t .answer ≡ Refused x → (t .result ≡ t .buffer) × (t .left ≡ t .given)
+  pub kept : (x : Refusal) → t .answer ≡ Refused x → (t .result ≡ t .asked .buffer) × (t .left ≡ t .given)
 
 -- "After the list the count is m, the bits set are those of the used numbers, spare bits are zero, the tally is what was drawn, cell by cell,
 -- and the record beyond these is as before the start.": with the record s₀ before the start, and the record `end` after the list
@@ -114,7 +113,7 @@ pub record RunClaim (b : List ℕ) (s₀ : CampaignRecord) (l : List Asked) (p :
   -- "A start on a plan that opens, with a record long enough, is accepted, whatever the record held before."
   pub start : startAnswer b s₀ ≡ Done
   -- the draws made are those asked for, each as claimed
-  pub asked : map (λ t. record { number = t .number; buffer = t .buffer }) run ≡ l
+  pub asked : map (λ t. t .asked) run ≡ l
   pub each : (earlier : List Made) (t : Made) (later : List Made) → run ≡ earlier ++ (t ∷ later) → DrawClaim b earlier t
   -- drawn plus what the unused numbers hold is the planned sum: for any places, so for every cell, row and column
   pub balance : (s : List ℕ) → drawn p run s + unused p run s ≡ total (p .cells) s

@@ -6,6 +6,7 @@ use Prim.Native.Nat.{ℕ, _+_, _*_, _<_, _≤_}
 use lib.ListN.{length, getD}
 use lib.Dec.{leb, eqb}
 use Rattle.table.specs.Lists.{sumTo}
+use Rattle.table.specs.Table.{maxArrays, maxDenominator}
 use Rattle.table.specs.declared.Answer.{Answer}
 use Rattle.table.specs.declared.Answer.the-variants.{Done, Refused}
 use Rattle.table.specs.declared.Refusal.the-variants.{Buffer}
@@ -27,12 +28,12 @@ takenOf b bits k = bitsSet bits (sumTo k (weightOf b)) (weightOf b k)
 -- the bits are enough for the numbers of k arrays
 pub record Numbered (k : ℕ) (b bits : List ℕ) : Type 0 where
   pub contents : Contents k b
-  pub few : sumTo k (weightOf b) ≤ 65535
+  pub few : sumTo k (weightOf b) ≤ maxDenominator
   pub room : sumTo k (weightOf b) ≤ 8 * length bits
 
--- how many numbers of each of k arrays are taken, in a list of 170
+-- how many numbers of each of k arrays are taken, in a list of as many as a plan can have
 pub record Counted (k : ℕ) (b bits taken : List ℕ) : Type 0 where
-  pub len : length taken ≡ 170
+  pub len : length taken ≡ maxArrays
   pub each : (j : ℕ) → j < k → getD taken j 0 ≡ takenOf b bits j
 
 -- the count at place i times how many numbers of its array are taken, added up over k arrays

@@ -13,7 +13,7 @@ use Rattle.stored.specs.Plan.{Plan, arrayFor}
 use Rattle.stored.specs.Form.{decode}
 use Rattle.stored.specs.Open.{ifOpen}
 
--- "The record is the count of numbers taken (32 bits); D bits [..]; and a tally of r·c numbers of 32 bits." (The tally is the campaign's running sum.)
+-- "The record is the count of numbers taken (32 bits); D bits [..]; and a tally of r·c numbers of 32 bits."
 pub record CampaignRecord : Type 0 where
   pub taken : ℕ
   pub bits : List ℕ
@@ -23,33 +23,38 @@ pub record CampaignRecord : Type 0 where
 unfoldable pub bitOf : List ℕ → ℕ → ℕ
 bitOf bits d = getD bits (d / 8) 0 / 2 ^ (d % 8) % 2
 
+-- how many bytes the bits of a denominator take
 abbrev pub bitBytes : ℕ → ℕ
-bitBytes d = (d + 7) / 8
+bitBytes denominator = (denominator + 7) / 8
 
+-- how many cells a plan's table has
 abbrev pub cellCount : Plan → ℕ
 cellCount p = p .rows * p .columns
 
--- "A record fits a plan if the spare bits are zero, the count is the number of set bits and the tally is the sum of the arrays of the taken numbers."
+-- "the spare bits are zero"
 abbrev pub spareClear : ℕ → List ℕ → Bool
-spareClear d bits = all (λ i. eqb (bitOf bits (d + i)) 0) (tabulate (8 * bitBytes d - d) (λ i. i))
+spareClear denominator bits = all (λ i. eqb (bitOf bits (denominator + i)) 0) (tabulate (8 * bitBytes denominator - denominator) (λ i. i))
 
+-- "the sum of the arrays of the taken numbers", at one cell
 abbrev pub takenSum : Plan → List ℕ → ℕ → ℕ
 takenSum p bits i = sumTo (p .denominator) (λ d. bitOf bits d * getD (arrayFor (p .arrays) d) i 0)
 
+-- "A record fits a plan if the spare bits are zero, the count is the number of set bits and the tally is the sum of the arrays of the taken numbers."
 unfoldable pub fits : Plan → CampaignRecord → Bool
 fits p s =
     spareClear (p .denominator) (s .bits)
     && eqb (s .taken) (sumTo (p .denominator) (bitOf (s .bits)))
     && all (λ i. eqb (getD (s .tally) i 0) (takenSum p (s .bits) i)) (tabulate (cellCount p) (λ i. i))
 
--- a lent buffer is not shorter than the record
+-- neither buffer of the record is shorter than the record of the plan
 abbrev pub roomFor : Plan → CampaignRecord → Bool
 roomFor p s = leb (bitBytes (p .denominator)) (length (s .bits)) && leb (cellCount p) (length (s .tally))
 
--- "A start sets all of it to zero." "Bytes and numbers beyond those needed are never touched."
+-- the call "campaign start": 5, 6, 7, the lowest that applies
 unfoldable pub startAnswer : List ℕ → CampaignRecord → Answer
 startAnswer b s = ifOpen b (cond (roomFor (decode b) s) Done (Refused Buffer))
 
+-- "A start sets all of it to zero." "Bytes and numbers beyond those needed are never touched."
 unfoldable pub started : Plan → CampaignRecord → CampaignRecord
 started p s = record {
   taken = 0;
@@ -57,7 +62,7 @@ started p s = record {
   tally = written (replicate (cellCount p) 0) (s .tally);
 }
 
--- 5, 6, 7, 8, 9, 10, with a buffer of `room` counts for the array
+-- the call "campaign draw": 5, 6, 7, 8, 9, 10, the lowest that applies, with a buffer of `room` counts for the array
 unfoldable pub campaignAnswer : List ℕ → ℕ → CampaignRecord → ℕ → Answer
 campaignAnswer b d s room =
     let p = decode b in

@@ -2,6 +2,7 @@
 ghost use mathlib.Core.Path.{_≡_};
 ghost use Prim.Native.Nat.{_+_, _*_, _/_, _%_, _^_, _<_, _≤_};
 ghost use lib.ListN.{length, getD, set};
+ghost use Rattle.table.specs.Table.{maxDenominator};
 ghost use Rattle.campaign.specs.Record.{bitOf};
 ghost use Rattle.campaign.specs.Parts.{bitsSet};
 
@@ -15,7 +16,7 @@ pub fn bit(bits: &[u8], d: usize) -> u32
 
 // How many of `count` bits from `from` on are set.
 pub fn bits_set(bits: &[u8], from: usize, count: usize) -> u32
-    requires { ⌜ (from ≤ 65535) × (count ≤ 65535) × (from + count ≤ 8 * length (now bits)) ⌝ }
+    requires { ⌜ (from ≤ maxDenominator) × (count ≤ maxDenominator) × (from + count ≤ 8 * length (now bits)) ⌝ }
     ensures { λ r. ⌜ r ≡ bitsSet (now (bits .entry)) from count ⌝ }
 {
     let mut sum: u32 = 0;

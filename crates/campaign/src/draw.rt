@@ -74,7 +74,7 @@ fn add_counts(counts: &[u16], cells: usize, tally: &mut [u32])
 }
 
 // A campaign draw, with the count by value: the answer, and the count as the draw leaves it.
-pub fn draw_step(
+fn draw_step(
     plan: &[u8],
     number: u32,
     taken: u32,

@@ -2,6 +2,7 @@
 ghost use mathlib.Core.Path.{_≡_};
 ghost use Prim.Native.Nat.{_+_, _*_, _<_, _≤_};
 ghost use lib.ListN.{length};
+ghost use Rattle.table.specs.Table.{maxArrays};
 ghost use Rattle.stored.specs.Form.{decode};
 ghost use Rattle.stored.specs.Parts.{Reached, Stored};
 ghost use Rattle.campaign.specs.Record.{fits};
@@ -36,7 +37,7 @@ fn wide(x: u32) -> u64
 
 // What the tally has to be at place i: the counts there times how many numbers of their arrays are taken, added up.
 fn tally_at(plan: &[u8], arrays: usize, taken: &[u32; 170], i: usize) -> u64
-    requires { ⌜ Reached arrays i (now plan) × (length (now taken) ≡ 170) ⌝ }
+    requires { ⌜ Reached arrays i (now plan) × (length (now taken) ≡ maxArrays) ⌝ }
     ensures { λ r. ⌜ r ≡ tallyIn (now (plan .entry)) (now (taken .entry)) arrays i ⌝ }
 {
     let mut sum: u64 = 0;
@@ -46,9 +47,9 @@ fn tally_at(plan: &[u8], arrays: usize, taken: &[u32; 170], i: usize) -> u64
     sum
 }
 
-// Whether the tally is that at each place.
+// Whether the tally at each place is the sum of the arrays of the taken numbers.
 fn tally_right(plan: &[u8], arrays: usize, cells: usize, taken: &[u32; 170], tally: &[u32]) -> bool
-    requires { ⌜ Stored arrays cells (now plan) × (length (now taken) ≡ 170) × (cells ≤ length (now tally)) ⌝ }
+    requires { ⌜ Stored arrays cells (now plan) × (length (now taken) ≡ maxArrays) × (cells ≤ length (now tally)) ⌝ }
     ensures { λ r. ⌜ r ≡ tallyRight (now (plan .entry)) (now (taken .entry)) (now (tally .entry)) arrays cells ⌝ }
 {
     for i in 0..cells {

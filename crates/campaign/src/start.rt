@@ -33,7 +33,7 @@ fn clear_numbers(numbers: &mut [u32], count: usize)
 }
 
 // A start, with the count by value: the answer, and the count as the start leaves it.
-pub fn start_step(plan: &[u8], taken: u32, bits: &mut [u8], tally: &mut [u32]) -> Step
+fn start_step(plan: &[u8], taken: u32, bits: &mut [u8], tally: &mut [u32]) -> Step
     ensures { λ r. ⌜ Leaves (startAnswer (now (plan .entry)) (recordOf taken (now (bits .entry)) (now (tally .entry))))
         (started (decode (now (plan .entry))) (recordOf taken (now (bits .entry)) (now (tally .entry))))
         (recordOf taken (now (bits .entry)) (now (tally .entry))) r (now (bits .exit)) (now (tally .exit)) ⌝ }
