@@ -1,17 +1,15 @@
 -- How long the listing of a laid-out plan is at most. Assumes nothing.
 use mathlib.Core.Path.{_≡_, ap}
-use mathlib.Core.Bool.{Bool, true, _&&_}
+use mathlib.Core.Bool.{true}
 use mathlib.Core.List.{List, [], _∷_}
 use Prim.Native.Nat.{ℕ, zero, suc, _+_, _*_, _<_, _≤_}
 use native.Mathlib.Nat.{mul-le-mul}
 use native.Mathlib.Omega.{arith}
-use lib.Dec.{eqb}
 use lib.ListN.{length, getD, length-append}
 use Rattle.table.specs.Lists.{tabulate, joinTo}
-use Rattle.table.specs.Check.{upTo}
-use Rattle.table.proofs.Lists.{and-left, and-right}
-use Rattle.table.proofs.Checks.{upTo-high}
-use Rattle.stored.specs.Form.{number, formOf, zeroOf, rowsOf, columnsOf, denominatorOf, arraysOf, fieldOf, countOf, laidOut, decode}
+use Rattle.stored.specs.Form.{number, rowsOf, columnsOf, denominatorOf, arraysOf, fieldOf, countOf, laidOut, decode}
+use Rattle.stored.specs.Parts.{Laid}
+use Rattle.stored.proofs.Layouts.{laid}
 use Rattle.text.specs.Text.{decimal, spaced, line, listing}
 use Rattle.text.specs.Write.{maxListing, Room, arrayOf, storedLine}
 use Rattle.text.proofs.Decimals.{decimal-length, decimal-most}
@@ -29,20 +27,9 @@ spaced-length x (suc n) f h =
     omega
     (arith, length-append (decimal x) (32 ∷ spaced (f 0 ∷ tabulate n (λ i. f (suc i)))), spaced-length (f 0) n (λ i. f (suc i)) (λ i. h (suc i)), decimal-length 4 (f 0) (h 0))
 
--- the bounds of a laid-out plan
-middle : (a b c d e f g h : Bool) → (a && b && c && d && e && f && g && h) ≡ true → (c ≡ true) × (d ≡ true) × (e ≡ true) × (f ≡ true)
-middle a b c d e f g h p =
-    let six = and-left (a && b && c && d && e && f) g (and-left (a && b && c && d && e && f && g) h p) in
-    let five = and-left (a && b && c && d && e) f six in
-    let four = and-left (a && b && c && d) e five in
-    (and-right (a && b) c (and-left (a && b && c) d four), and-right (a && b && c) d four, and-right (a && b && c && d) e five, and-right (a && b && c && d && e) f six)
-
-module _ (b : List ℕ) (laid : laidOut b ≡ true) where
-  bounds : (rowsOf b ≤ 12) × (columnsOf b ≤ 12) × (arraysOf b ≤ 170) × (denominatorOf b ≤ 65535)
-  unfolding laidOut
-  bounds =
-      let m = middle (eqb (formOf b) 1) (eqb (zeroOf b) 0) (upTo 12 (rowsOf b)) (upTo 12 (columnsOf b)) (upTo 170 (arraysOf b)) (upTo 65535 (denominatorOf b)) _ _ laid in
-      (upTo-high 12 _ (m .0), upTo-high 12 _ (m .1), upTo-high 170 _ (m .2), upTo-high 65535 _ (m .3))
+module _ (b : List ℕ) (l : laidOut b ≡ true) where
+  within : Laid (rowsOf b) (columnsOf b) (arraysOf b) (denominatorOf b) b
+  within = laid b l
 
   module _ (bytes : (k : ℕ) → getD b k 0 < 256) where
     head-length : length (lineOf b 0) ≤ 16
@@ -50,17 +37,17 @@ module _ (b : List ℕ) (laid : laidOut b ≡ true) where
     head-length = simp length-append
         (omega (
           arith,
-          decimal-length 1 (rowsOf b) (omega (arith, bounds .0)),
-          decimal-length 1 (columnsOf b) (omega (arith, bounds .1)),
-          decimal-length 4 (denominatorOf b) (omega (arith, bounds .3)),
-          decimal-length 2 (arraysOf b) (omega (arith, bounds .2)),
+          decimal-length 1 (rowsOf b) (omega (arith, within .rows)),
+          decimal-length 1 (columnsOf b) (omega (arith, within .columns)),
+          decimal-length 4 (denominatorOf b) (omega (arith, within .denominator)),
+          decimal-length 2 (arraysOf b) (omega (arith, within .arrays)),
         ))
 
     array-length : (k : ℕ) → length (lineOf b (suc k)) ≤ 875
     unfolding storedLine line
     array-length k =
         let n = rowsOf b * columnsOf b in
-        let cells : n ≤ 144 = mul-le-mul (bounds .0) (bounds .1) in
+        let cells : n ≤ 144 = mul-le-mul (within .rows) (within .columns) in
         let numbers = spaced-length (fieldOf b (suc k)) n (countOf b (suc k)) (λ i. two-small b bytes _) in
         omega
         (arith, length-append (spaced (arrayOf b (suc k))) (10 ∷ []), numbers, cells, decimal-most (fieldOf b (suc k)))
@@ -71,7 +58,7 @@ module _ (b : List ℕ) (laid : laidOut b ≡ true) where
     lines-length (suc k) = omega (arith, lines-length k, length-append (joinTo (suc k) (lineOf b)) (lineOf b (suc k)), array-length k)
 
     pub listing-length : length (listing (decode b)) ≤ maxListing
-    listing-length = omega (arith, ap length (listing-whole b), lines-length (arraysOf b), bounds .2)
+    listing-length = omega (arith, ap length (listing-whole b), lines-length (arraysOf b), within .arrays)
 
     pub listing-room : (out : List ℕ) (at : ℕ) → at + maxListing ≤ length out → Room out at (listing (decode b))
     listing-room out at h = record { fits = omega (arith, listing-length) }

@@ -1,5 +1,4 @@
 pub mod Examples
-pub mod Numbers
 pub mod Decimals
 pub mod Writes
 pub mod Lines

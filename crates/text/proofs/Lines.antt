@@ -5,11 +5,18 @@ use Prim.Native.Nat.{ℕ, zero, suc, _+_, _-_, _*_, _<_, _≤_}
 use native.Mathlib.Nat.{not-suc-le-zero, le-of-suc-le-suc}
 use native.Mathlib.Numerals.{add-one}
 use native.Mathlib.Omega.{arith}
+use mathlib.Core.Bool.{true}
 use lib.ListN.{length, getD, take, length-append}
+use mir.Val.{Fits}
+use mir.Syntax.{w32, w64}
 use lib.Seq.{take-length}
 use Rattle.table.specs.Lists.{tabulate, joinTo}
 use Rattle.table.proofs.Lists.{length-tabulate, getD-tabulate, map-tabulate}
-use Rattle.stored.specs.Form.{number, rowsOf, columnsOf, denominatorOf, arraysOf, offsetOf, countOf, decode}
+use Rattle.stored.specs.declared.Sizes.{Sizes}
+use Rattle.stored.specs.Form.{rowsOf, columnsOf, denominatorOf, arraysOf, fieldOf, offsetOf, countOf, laidOut, decode}
+use Rattle.stored.specs.Parts.{sizesOf, countAt, Stored}
+use Rattle.stored.proofs.Layouts.{laid}
+use Rattle.stored.proofs.Contents.{stored-by}
 use Rattle.text.specs.Text.{decimal, spaced, line, lines, lineNumbers, listing, refusedWord, refused}
 use Rattle.text.specs.Write.{maxListing, Room, Wrote, gapBefore, headOf, arrayOf, storedLine}
 use Rattle.text.proofs.Decimals.{decimal-most}
@@ -93,10 +100,24 @@ module _ (b : List ℕ) where
   unfolding listing
   listing-whole = sym (ap lines stored-lines ∙ lines-join (suc (arraysOf b)) (storedLine b))
 
-  pub lines-none : (x : ℕ) {out : List ℕ} {at : ℕ} → x ≡ arraysOf b → Room out at (listing (decode b)) → Writing (lineOf b) (x + 1) 0 (listing (decode b)) out at out at
-  lines-none x e h =
-      let f : x + 1 ≡ suc (arraysOf b) = omega (arith, add-one x) in
-      writing-none (lineOf b) (x + 1) (ap (λ (k : ℕ). joinTo k (lineOf b)) f ∙ listing-whole) h
+  pub lines-none : (s : Sizes) {out : List ℕ} {at : ℕ} → s ≡ sizesOf b → Room out at (listing (decode b)) → Writing (lineOf b) (s .arrays + 1) 0 (listing (decode b)) out at out at
+  lines-none s e h =
+      let f : s .arrays + 1 ≡ suc (arraysOf b) = add-one (s .arrays) ∙ ap (λ (t : Sizes). suc (t .arrays)) e in
+      writing-none (lineOf b) (s .arrays + 1) (ap (λ (k : ℕ). joinTo k (lineOf b)) f ∙ listing-whole) h
+
+  -- the numbers of the first line
+  module _ (i : ℕ) (s : Sizes) (e : s ≡ sizesOf b) where
+    pub rows-read : i ≡ 0 → s .rows ≡ getD (headOf b) i 0
+    rows-read h = rw (h, e)
+
+    pub columns-read : i ≡ 1 → s .columns ≡ getD (headOf b) i 0
+    columns-read h = rw (h, e)
+
+    pub denominator-read : i ≡ 2 → s .denominator ≡ getD (headOf b) i 0
+    denominator-read h = rw (h, e)
+
+    pub arrays-read : i ≡ 3 → s .arrays ≡ getD (headOf b) i 0
+    arrays-read h = rw (h, e)
 
   module _ (k : ℕ) where
     first-line : k ≡ 0 → storedLine b k ≡ headOf b
@@ -114,9 +135,9 @@ module _ (b : List ℕ) where
     pub head-length : k ≡ 0 → 4 ≡ length (storedLine b k)
     head-length e = sym (ap length (first-line e))
 
-    pub array-length : (x y : ℕ) → (k ≡ 0 → ⊥) → x ≡ number 1 b 2 → y ≡ number 1 b 3 → x * y + 1 ≡ length (storedLine b k)
-    array-length x y h e f =
-        add-one (x * y) ∙ ap suc (ap₂ _*_ e f ∙ sym (length-tabulate (rowsOf b * columnsOf b) _)) ∙ sym (ap length (array-line h))
+    pub array-length : (s : Sizes) → s ≡ sizesOf b → (k ≡ 0 → ⊥) → s .rows * s .columns + 1 ≡ length (storedLine b k)
+    array-length s e h =
+        add-one (s .rows * s .columns) ∙ ap suc (ap (λ (t : Sizes). t .rows * t .columns) e ∙ sym (length-tabulate (rowsOf b * columnsOf b) _)) ∙ sym (ap length (array-line h))
 
     module _ (i : ℕ) where
       pub head-inside : k ≡ 0 → i < length (storedLine b k) → i < 4
@@ -126,30 +147,68 @@ module _ (b : List ℕ) where
       array-inside e h = rw (array-line e) at h
 
       module _ (r : ℕ) where
-        pub head-place : (j : ℕ) → i ≡ j → r ≡ getD (headOf b) j 0 → r ≡ getD (headOf b) i 0
-        head-place j e h = rw e h
-
         pub head-read : k ≡ 0 → r ≡ getD (headOf b) i 0 → r ≡ getD (storedLine b k) i 0
         head-read e h = rw (first-line e) h
 
         pub array-read : (k ≡ 0 → ⊥) → r ≡ getD (arrayOf b k) i 0 → r ≡ getD (storedLine b k) i 0
         array-read e h = rw (array-line e) h
 
-        pub weight-read : i ≤ 0 → r ≡ number 4 b (8 + 8 * k) → r ≡ getD (arrayOf b k) i 0
+        pub weight-read : i ≤ 0 → r ≡ fieldOf b k → r ≡ getD (arrayOf b k) i 0
         weight-read l h = let e : i ≡ 0 = omega arith in rw e h
 
-        pub count-read : (o : ℕ) → 0 < i → i < length (arrayOf b k) → o ≡ number 4 b (12 + 8 * k) → r ≡ number 2 b (o + 2 * (i - 1)) → r ≡ getD (arrayOf b k) i 0
-        count-read o p h f g = go i p h g
+        pub count-read : 0 < k → 0 < i → i < length (arrayOf b k) → r ≡ countAt b (k - 1) (i - 1) → r ≡ getD (arrayOf b k) i 0
+        count-read o p h g = go i p h g
           where
             n : ℕ
             n = rowsOf b * columnsOf b
 
-            go : (i : ℕ) → 0 < i → i < length (arrayOf b k) → r ≡ number 2 b (o + 2 * (i - 1)) → r ≡ getD (arrayOf b k) i 0
+            go : (i : ℕ) → 0 < i → i < length (arrayOf b k) → r ≡ countAt b (k - 1) (i - 1) → r ≡ getD (arrayOf b k) i 0
             go zero p h g = absurd (not-suc-le-zero p)
             go (suc i) p h g =
-                let e : o + 2 * (suc i - 1) ≡ offsetOf b k + 2 * i = omega arith in
+                let e : k - 1 + 1 ≡ k = omega arith in
+                let f : suc i - 1 ≡ i = omega arith in
                 let l : i < n = rw (length-tabulate n (countOf b k)) at (le-of-suc-le-suc h) in
-                g ∙ ap (number 2 b) e ∙ sym (getD-tabulate n (countOf b k) i 0 l)
+                g ∙ ap₂ (countOf b) e f ∙ sym (getD-tabulate n (countOf b k) i 0 l)
+
+-- what reading a laid-out plan asks
+module _ (b : List ℕ) (h : laidOut b ≡ true) where
+  there : Stored (arraysOf b) (rowsOf b * columnsOf b) b
+  there = stored-by (laid b h)
+
+  pub head-there : 16 ≤ length b
+  head-there = omega (arith, there .contents .room)
+
+  pub weight-there : (k : ℕ) → k ≤ arraysOf b → 16 + 8 * k ≤ length b
+  weight-there k l = omega (arith, there .contents .room)
+
+  pub count-there : (k i : ℕ) → 0 < k → k ≤ arraysOf b → 0 < i → i < length (arrayOf b k)
+      → (16 + 8 * (k - 1 + 1) ≤ length b) × (offsetOf b (k - 1 + 1) + 2 * (i - 1) + 2 ≤ length b)
+  count-there k i p l q m =
+      let n : i < suc (rowsOf b * columnsOf b) = rw (length-tabulate (rowsOf b * columnsOf b) (countOf b k)) at m in
+      (omega (arith, there .contents .room), omega (arith, there .counts (k - 1) (omega arith)))
+
+  -- and that the sizes are small
+  module _ (s : Sizes) (e : s ≡ sizesOf b) where
+    pub rows-fit : Fits w32 (s .rows)
+    rows-fit = record { fits = rw e (omega (arith, laid b h .rows)) }
+
+    pub columns-fit : Fits w32 (s .columns)
+    columns-fit = record { fits = rw e (omega (arith, laid b h .columns)) }
+
+    pub arrays-fit : Fits w32 (s .arrays)
+    arrays-fit = record { fits = rw e (omega (arith, laid b h .arrays)) }
+
+    pub lines-few : s .arrays + 1 ≤ 171
+    lines-few = rw e (omega (arith, laid b h .arrays))
+
+    pub lines-fit : Fits w64 (s .arrays + 1)
+    lines-fit = record { fits = omega (arith, lines-few) }
+
+    pub cells-fit : Fits w64 (s .rows * s .columns)
+    cells-fit = record { fits = rw e (omega (arith, there .few)) }
+
+    pub cells-fit-more : Fits w64 (s .rows * s .columns + 1)
+    cells-fit-more = record { fits = rw e (omega (arith, there .few)) }
 
 -- a refusal, part by part
 abbrev pub refusedSpace : List ℕ

@@ -3,7 +3,7 @@ use mathlib.Core.Path.{_≡_, refl, sym, ap, _∙_}
 use mathlib.Core.Bool.{true, false}
 use mathlib.Core.List.{List, _++_}
 use mathlib.Core.Option.{Option, some, none}
-use Prim.Native.Nat.{ℕ, _+_, _-_, _≤_}
+use Prim.Native.Nat.{ℕ, _-_, _≤_}
 use native.Mathlib.Omega.{arith}
 use borrow.Author.Tests.{le-leb}
 use lib.ListN.{length, getD, take, drop, replicate, length-append}
@@ -24,7 +24,7 @@ use Rattle.plan.specs.Call.{planBytes, ifAccepted, plannedOf, planAnswer, after
 use Rattle.plan.specs.Promises.{Promises}
 use Rattle.text.specs.declared.Parsed.{Parsed}
 use Rattle.text.specs.Parsed.{parsedOf}
-use Rattle.text.specs.Text.{parse, listing, refused, refusedText, checked, printed, output}
+use Rattle.text.specs.Text.{parse, listing, refused, refusedText, ifPlanned, tableOutput, printed, output}
 use Rattle.text.specs.Write.{Wrote}
 use Rattle.text.proofs.Answers.{accepted-count, padded-at, padded-part}
 
@@ -51,15 +51,15 @@ module _ (r c d : ℕ) (g : List ℕ) (p : Planned) (old new : List ℕ)
   told (table.Refused x) q = f .0 ∙ rw q refl
 
   refusal : (x : Refusal) → p ≡ Refused x → (k : Checked) → p ≡ ifAccepted k (Length (length (planBytes r c d g)))
-      → refused (numberOf x) ≡ checked k (planOf r c d g)
+      → refused (numberOf x) ≡ ifPlanned k (planOf r c d g)
   refusal x h (table.Accepted t) a = let o : _≡_ {A = ℕ} 0 1 = cc in absurd (omega arith)
   refusal x h (table.Refused y) a = let e : x ≡ y = cc in ap (λ z. refused (numberOf z)) e
 
   pub refusal-printed : (x : Refusal) → p ≡ Refused x → (out after : List ℕ) (end : ℕ) → Wrote out 0 (refused (numberOf x)) after end
-      → Wrote out 0 (checked (checkOf r c d g) (planOf r c d g)) after end
+      → Wrote out 0 (tableOutput r c d g) after end
   refusal-printed x h out after end w = rw (refusal x h (checkOf r c d g) (told (checkOf r c d g) refl)) at w
 
-  listed : (n : ℕ) → p ≡ Length n → (k : Checked) → checkOf r c d g ≡ k → Listed n new (checked k (planOf r c d g))
+  listed : (n : ℕ) → p ≡ Length n → (k : Checked) → checkOf r c d g ≡ k → Listed n new (ifPlanned k (planOf r c d g))
   listed n h (table.Refused x) q = let a = told (table.Refused x) q in let o : _≡_ {A = ℕ} 0 1 = cc in absurd (omega arith)
   listed n h (table.Accepted t) q =
       let a = told (table.Accepted t) q in
@@ -75,16 +75,12 @@ module _ (r c d : ℕ) (g : List ℕ) (p : Planned) (old new : List ℕ)
         lists = ap listing (ap decode b ∙ k .decodes);
       }
 
-  pub plan-listed : (n : ℕ) → p ≡ Length n → Listed n new (checked (checkOf r c d g) (planOf r c d g))
+  pub plan-listed : (n : ℕ) → p ≡ Length n → Listed n new (tableOutput r c d g)
   plan-listed n h = listed n h (checkOf r c d g) refl
 
 pub listing-printed : {n : ℕ} {new s : List ℕ} → Listed n new s → (out after : List ℕ) (end : ℕ)
     → Wrote out 0 (listing (decode (take n new))) after end → Wrote out 0 s after end
 listing-printed l out after end w = rw (l .lists) at w
-
--- what is printed of a table
-abbrev pub tableOutput : ℕ → ℕ → ℕ → List ℕ → List ℕ
-tableOutput r c d g = checked (checkOf r c d g) (planOf r c d g)
 
 -- the numbers of an accepted text, as its answer holds them
 pub record Numbers (p : Parsed) (s : List ℕ) : Type 0 where

@@ -17,7 +17,7 @@ use Rattle.table.specs.Lists.{all}
 use Rattle.table.proofs.Lists.{and-left, and-both, all-intro, all-fails, all-append}
 use Rattle.text.specs.Text.{isDigit, isGap, isText, isNumber, numbersFrom, parse}
 use Rattle.text.specs.declared.Parsed.{Parsed}
-use Rattle.text.specs.Parsed.{padded, parsedOf, sizeOf}
+use Rattle.text.specs.Parsed.{padded, parsedOf, oneIf}
 
 -- the tests of a byte
 module _ (x : ℕ) where
@@ -109,7 +109,7 @@ pub record Scanned (s : List ℕ) (i : ℕ) (reading : Bool) (count : ℕ) (numb
   pub found : numbersFrom none s ≡ done ++ numbersFrom last (drop i s)
   pub clean : (k : ℕ) → k < i → isText (getD s k 0) ≡ true
   pub small : all isNumber (done ++ heldIn last) ≡ true
-  pub few : 2 * count + sizeOf reading ≤ i
+  pub few : 2 * count + oneIf reading ≤ i
   pub short : length s ≤ 4096
   pub inside : i ≤ length s
 
@@ -118,11 +118,11 @@ unfolding all
 small-more l k n e h =
     all-append isNumber l (n ∷ []) ∙ and-both (and-left (all isNumber l) (all isNumber k) (sym (all-append isNumber l k) ∙ e)) (rw (le-leb n 4294967295 h))
 
-held-size : (o : Option ℕ) → length (heldIn o) ≡ sizeOf (isSome o)
+held-size : (o : Option ℕ) → length (heldIn o) ≡ oneIf (isSome o)
 held-size none = refl
 held-size (some v) = refl
 
-size-small : (b : Bool) → sizeOf b ≤ 1
+size-small : (b : Bool) → oneIf b ≤ 1
 size-small true = omega arith
 size-small false = omega arith
 
@@ -175,7 +175,7 @@ module _ {s : List ℕ} {i : ℕ} {reading : Bool} {count : ℕ} {numbers : List
   pub scanned-same : {n : List ℕ} {c : ℕ} {r : Bool} → n ≡ numbers → c ≡ count → r ≡ reading → Scanned s i r c n
   scanned-same e f g = rw (e, f, g) w
 
-  pub count-fits : (k : ℕ) → k ≡ sizeOf reading → Fits w64 (count + k)
+  pub count-fits : (k : ℕ) → k ≡ oneIf reading → Fits w64 (count + k)
   count-fits k e = record { fits = omega (arith, w .few, w .inside, w .short) }
 
   module _ (l : i < length s) where
@@ -235,12 +235,12 @@ module _ {s : List ℕ} {i : ℕ} {reading : Bool} {count : ℕ} {numbers : List
             let f : isText (getD s i 0) ≡ false = rw no-digit (sym ge ∙ not-true g h) in
             e ∙ sym (ap parsedOf (parse-other s (all-fails isText s 0 i l f)))
 
-        pub scanned-gap : not g ≡ false → (k : ℕ) → k ≡ sizeOf reading → Scanned s (i + 1) false (count + k) numbers
+        pub scanned-gap : not g ≡ false → (k : ℕ) → k ≡ oneIf reading → Scanned s (i + 1) false (count + k) numbers
         scanned-gap h k e = record {
           done = w .done ++ heldIn (w .last);
           last = none;
           is-reading = refl;
-          counted = sym (length-append (w .done) (heldIn (w .last)) ∙ ap₂ _+_ (sym (w .counted)) (held-size (w .last) ∙ ap sizeOf (sym (w .is-reading)) ∙ sym e));
+          counted = sym (length-append (w .done) (heldIn (w .last)) ∙ ap₂ _+_ (sym (w .counted)) (held-size (w .last) ∙ ap oneIf (sym (w .is-reading)) ∙ sym e));
           held = w .held ∙ ap padded (sym (append-nil (w .done ++ heldIn (w .last))));
           found = found-here ∙ ap (λ (r : List ℕ). w .done ++ r) (from-gap (w .last) (getD s i 0) (drop (i + 1) s) no-digit) ∙ sym (append-assoc (w .done) (heldIn (w .last)) _);
           clean = clean-more (rw no-digit (sym ge ∙ not-false g h));
@@ -250,12 +250,12 @@ module _ {s : List ℕ} {i : ℕ} {reading : Bool} {count : ℕ} {numbers : List
           inside = omega arith;
         }
 
-  module _ (m : length s ≤ i) (k : ℕ) (ke : k ≡ sizeOf reading) where
+  module _ (m : length s ≤ i) (k : ℕ) (ke : k ≡ oneIf reading) where
     all-found : numbersFrom none s ≡ w .done ++ heldIn (w .last)
     all-found = w .found ∙ ap (λ (r : List ℕ). w .done ++ numbersFrom (w .last) r) (drop-of-length-le s m) ∙ ap (λ (r : List ℕ). w .done ++ r) (from-end (w .last))
 
     count-found : count + k ≡ length (numbersFrom none s)
-    count-found = sym (ap length all-found ∙ length-append (w .done) (heldIn (w .last)) ∙ ap₂ _+_ (sym (w .counted)) (held-size (w .last) ∙ ap sizeOf (sym (w .is-reading)) ∙ sym ke))
+    count-found = sym (ap length all-found ∙ length-append (w .done) (heldIn (w .last)) ∙ ap₂ _+_ (sym (w .counted)) (held-size (w .last) ∙ ap oneIf (sym (w .is-reading)) ∙ sym ke))
 
     pub too-few : (p : Parsed) → p ≡ parsedOf none → count + k < 3 → p ≡ parsedOf (parse s)
     too-few p e h = e ∙ sym (ap parsedOf (parse-few s (omega (arith, count-found))))

@@ -1,3 +1,4 @@
 pub mod Text
 pub mod Parsed
 pub mod Write
+pub mod Examples

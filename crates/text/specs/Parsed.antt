@@ -16,6 +16,6 @@ parsedOf none = record { accepted = false; count = 0; numbers = padded [] }
 parsedOf (some n) = record { accepted = true; count = length n; numbers = padded n }
 
 -- 1 for true, 0 for false
-abbrev pub sizeOf : Bool → ℕ
-sizeOf true = 1
-sizeOf false = 0
+abbrev pub oneIf : Bool → ℕ
+oneIf true = 1
+oneIf false = 0

@@ -90,20 +90,18 @@ refused n = refusedWord ++ (32 ∷ line (n ∷ []))
 abbrev pub refusedText : List ℕ
 refusedText = refusedWord ++ (32 ∷ 116 ∷ 101 ∷ 120 ∷ 116 ∷ 10 ∷ [])
 
--- what is printed of a table's check, with its plan
-abbrev pub checked : Checked → Plan → List ℕ
-checked (Accepted t) p = listing p
-checked (Refused x) p = refused (numberOf x)
+-- what is printed of a table: the listing of its plan, or its refusal
+abbrev pub ifPlanned : Checked → Plan → List ℕ
+ifPlanned (Accepted t) p = listing p
+ifPlanned (Refused x) p = refused (numberOf x)
+
+abbrev pub tableOutput : ℕ → ℕ → ℕ → List ℕ → List ℕ
+tableOutput r c d g = ifPlanned (checkOf r c d g) (planOf r c d g)
 
 -- "r, c, D, then the cells": what is printed of the numbers
 abbrev pub printed : Option (List ℕ) → List ℕ
 printed none = refusedText
-printed (some n) =
-    let r = getD n 0 0 in
-    let c = getD n 1 0 in
-    let d = getD n 2 0 in
-    let g = drop 3 n in
-    checked (checkOf r c d g) (planOf r c d g)
+printed (some n) = tableOutput (getD n 0 0) (getD n 1 0) (getD n 2 0) (drop 3 n)
 
 -- what the program prints of an input; `refused text` comes "before any other test"
 unfoldable pub output : List ℕ → List ℕ

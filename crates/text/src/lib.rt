@@ -1,20 +1,23 @@
 // The text of the printing program: its input parsed, its output printed.
 ghost use mathlib.Core.Path.{_≡_};
 ghost use mathlib.Core.Bool.{true};
-ghost use mathlib.Core.List.{List};
+ghost use mathlib.Core.List.{List, map};
 ghost use Prim.Native.Nat.{ℕ, _<_, _≤_};
 ghost use lib.ListN.{length, getD};
 ghost use Rattle.stored.specs.Form.{laidOut, decode};
-ghost use Rattle.text.specs.Text.{maxText, maxNumber, listing};
+ghost use Rattle.text.specs.Text.{maxText, maxNumber, parse, listing, output};
 ghost use Rattle.text.specs.Write.{maxListing};
+ghost use Rattle.text.specs.Examples.{parses, outputs};
 
 pub mod output;
-pub mod parse;
-pub mod print;
-pub mod read;
-pub mod write;
+mod parse;
+mod print;
+mod write;
 
-// What a text is parsed to: whether it is accepted, how many numbers it has, and the numbers, with zeros after them.
+// No listing of a laid-out plan is longer.
+pub const MAX_LISTING: usize = 148766;
+
+// What a text is parsed to: whether it is accepted, how many numbers it has, and the numbers, with zeros after them. 4,096 bytes hold at most 2,048.
 pub struct Parsed {
     pub accepted: bool,
     pub count: usize,
@@ -25,11 +28,13 @@ pub struct Parsed {
 pub fn bounds()
     ensures text { λ _. do ⌜ (← ⟦parse::MAX_TEXT⟧ .entry) ≡ maxText ⌝ }
     ensures number { λ _. do ⌜ (← ⟦parse::MAX_NUMBER⟧ .entry) ≡ maxNumber ⌝ }
-    ensures listing { λ _. do ⌜ (← ⟦print::MAX_LISTING⟧ .entry) ≡ maxListing ⌝ }
+    ensures listing { λ _. do ⌜ (← ⟦MAX_LISTING⟧ .entry) ≡ maxListing ⌝ }
 {}
 
-// What holds of the bytes of every laid-out plan.
+// No laid-out plan has a longer listing than the longest; and the examples are as stated.
 pub fn claims()
     ensures longest { λ _. ⌜ ((b : List ℕ) → ((k : ℕ) → getD b k 0 < 256) → laidOut b ≡ true
         → length (listing (decode b)) ≤ maxListing) ⌝ }
+    ensures parsed { λ _. ⌜ map (λ p. parse (p .text)) parses ≡ map (λ p. p .numbers) parses ⌝ }
+    ensures printed { λ _. ⌜ map (λ o. output (o .text)) outputs ≡ map (λ o. o .prints) outputs ⌝ }
 {}

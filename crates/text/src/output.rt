@@ -1,9 +1,7 @@
 // What the printing program prints of its input.
 ghost use Prim.Native.Nat.{_≤_};
 ghost use lib.ListN.{length};
-ghost use Rattle.table.specs.Check.{checkOf};
-ghost use Rattle.plan.specs.Rounds.{planOf};
-ghost use Rattle.text.specs.Text.{checked, output};
+ghost use Rattle.text.specs.Text.{tableOutput, output};
 ghost use Rattle.text.specs.Write.{maxListing, Wrote};
 use crate::parse::parse;
 use crate::print::print_plan_bytes;
@@ -15,9 +13,7 @@ use plan::plan;
 // The listing of a table's plan, or the table's refusal.
 fn output_table(rows: u32, columns: u32, denominator: u32, cells: &[u32], out: &mut [u8]) -> usize
     requires { ⌜ maxListing ≤ length (now out) ⌝ }
-    ensures { λ r. ⌜ Wrote (now (out .entry)) 0
-        (checked (checkOf rows columns denominator (now (cells .entry))) (planOf rows columns denominator (now (cells .entry))))
-        (now (out .exit)) r ⌝ }
+    ensures { λ r. ⌜ Wrote (now (out .entry)) 0 (tableOutput rows columns denominator (now (cells .entry))) (now (out .exit)) r ⌝ }
 {
     let mut buffer = [0u8; 50912];
     let planned = plan(rows, columns, denominator, cells, &mut buffer);

@@ -4,14 +4,16 @@ ghost use mathlib.Core.Bool.{true};
 ghost use mathlib.Core.Option.{none};
 ghost use Prim.Native.Nat.{_+_, _-_, _*_};
 ghost use Rattle.text.specs.Text.{isDigit, isGap, parse};
-ghost use Rattle.text.specs.Parsed.{parsedOf, sizeOf};
+ghost use Rattle.text.specs.Parsed.{parsedOf, oneIf};
 use crate::Parsed;
 
 // A text has at most this many bytes.
 pub const MAX_TEXT: usize = 4096;
 
+// A number of a text is at most this.
 pub const MAX_NUMBER: u64 = 4294967295;
 
+// Whether a byte is a digit.
 fn is_digit(b: u8) -> bool
     ensures { λ r. ⌜ r ≡ isDigit b ⌝ }
 {
@@ -21,6 +23,7 @@ fn is_digit(b: u8) -> bool
     b <= 57
 }
 
+// Whether a byte is a space or a line end.
 fn is_gap(b: u8) -> bool
     ensures { λ r. ⌜ r ≡ isGap b ⌝ }
 {
@@ -30,20 +33,22 @@ fn is_gap(b: u8) -> bool
     b == 10
 }
 
-fn size(b: bool) -> usize
-    ensures { λ r. ⌜ r ≡ sizeOf b ⌝ }
+// 1 for true, 0 for false.
+fn one_if(b: bool) -> usize
+    ensures { λ r. ⌜ r ≡ oneIf b ⌝ }
 {
     if b { 1 } else { 0 }
 }
 
 // A number with one digit more.
-fn grown(n: u32, b: u8) -> u64
+fn with_digit(n: u32, b: u8) -> u64
     requires { ⌜ isDigit b ≡ true ⌝ }
     ensures { λ r. ⌜ r ≡ n * 10 + (b - 48) ⌝ }
 {
     (n as u64) * 10 + ((b - 48) as u64)
 }
 
+// The answer to a text that is refused.
 fn refused() -> Parsed
     ensures { λ r. ⌜ r ≡ parsedOf none ⌝ }
 {
@@ -68,7 +73,7 @@ pub fn parse(text: &[u8]) -> Parsed
     while i < text.len() {
         let b = text[i];
         if is_digit(b) {
-            let n = grown(numbers[count], b);
+            let n = with_digit(numbers[count], b);
             if MAX_NUMBER < n {
                 return refused();
             }
@@ -78,12 +83,12 @@ pub fn parse(text: &[u8]) -> Parsed
             if !is_gap(b) {
                 return refused();
             }
-            count = count + size(reading);
+            count = count + one_if(reading);
             reading = false;
         }
         i += 1;
     }
-    count = count + size(reading);
+    count = count + one_if(reading);
     if count < 3 {
         return refused();
     }

@@ -4,52 +4,49 @@ ghost use mathlib.Core.Bool.{true};
 ghost use Prim.Native.Nat.{_+_, _<_, _≤_};
 ghost use lib.ListN.{length, getD};
 ghost use Rattle.table.specs.Check.{numberOf};
-ghost use Rattle.stored.specs.Form.{laidOut, decode};
+ghost use Rattle.stored.specs.Form.{arraysOf, laidOut, decode};
 ghost use Rattle.text.specs.Text.{line, listing, refused, refusedText};
 ghost use Rattle.text.specs.Write.{maxListing, Room, Wrote, headOf, arrayOf, storedLine};
-use crate::read::four;
-use crate::read::one;
-use crate::read::two;
 use crate::write::put_bytes;
 use crate::write::put_decimal;
 use crate::write::put_number;
+use stored::body::count_at;
+use stored::layout::field;
+use stored::layout::sizes;
 use table::Refusal;
-
-// No listing of a laid-out plan is longer.
-pub const MAX_LISTING: usize = 148766;
 
 // The number at place i of the first line.
 fn head_number(plan: &[u8], i: usize) -> u32
-    requires { ⌜ i < 4 ⌝ }
+    requires { ⌜ (laidOut (now plan) ≡ true) × (i < 4) ⌝ }
     ensures { λ r. ⌜ r ≡ getD (headOf (now (plan .entry))) i 0 ⌝ }
 {
+    let s = sizes(plan);
     if i == 0 {
-        return one(plan, 2);
+        return s.rows as u32;
     }
     if i == 1 {
-        return one(plan, 3);
+        return s.columns as u32;
     }
     if i == 2 {
-        return four(plan, 8);
+        return s.denominator;
     }
-    two(plan, 4)
+    s.arrays as u32
 }
 
 // The number at place i of the line of array k: the weight, then the counts.
 fn array_number(plan: &[u8], k: usize, i: usize) -> u32
-    requires { ⌜ (k < 65537) × (i < 65537) × (i < length (arrayOf (now plan) k)) ⌝ }
+    requires { ⌜ (laidOut (now plan) ≡ true) × (0 < k) × (k ≤ arraysOf (now plan)) × (i < length (arrayOf (now plan) k)) ⌝ }
     ensures { λ r. ⌜ r ≡ getD (arrayOf (now (plan .entry)) k) i 0 ⌝ }
 {
     if 0 < i {
-        let body = four(plan, 12 + 8 * k) as usize;
-        return two(plan, body + 2 * (i - 1));
+        return count_at(plan, k - 1, i - 1) as u32;
     }
-    four(plan, 8 + 8 * k)
+    field(plan, k)
 }
 
 // The number at place i of line k.
 fn line_number(plan: &[u8], k: usize, i: usize) -> u32
-    requires { ⌜ (k < 65537) × (i < 65537) × (i < length (storedLine (now plan) k)) ⌝ }
+    requires { ⌜ (laidOut (now plan) ≡ true) × (k ≤ arraysOf (now plan)) × (i < length (storedLine (now plan) k)) ⌝ }
     ensures { λ r. ⌜ r ≡ getD (storedLine (now (plan .entry)) k) i 0 ⌝ }
 {
     if k == 0 {
@@ -60,19 +57,19 @@ fn line_number(plan: &[u8], k: usize, i: usize) -> u32
 
 // How many numbers line k has.
 fn line_length(plan: &[u8], k: usize) -> usize
-    ensures { λ r. ⌜ (r ≡ length (storedLine (now (plan .entry)) k)) × (r < 65537) ⌝ }
+    requires { ⌜ laidOut (now plan) ≡ true ⌝ }
+    ensures { λ r. ⌜ r ≡ length (storedLine (now (plan .entry)) k) ⌝ }
 {
     if k == 0 {
         return 4;
     }
-    let rows = one(plan, 2) as usize;
-    let columns = one(plan, 3) as usize;
-    rows * columns + 1
+    let s = sizes(plan);
+    s.rows * s.columns + 1
 }
 
 // Line k.
 fn print_line(plan: &[u8], k: usize, out: &mut [u8], at: usize) -> usize
-    requires { ⌜ (k < 65537) × Room (now out) at (line (storedLine (now plan) k)) ⌝ }
+    requires { ⌜ (laidOut (now plan) ≡ true) × (k ≤ arraysOf (now plan)) × Room (now out) at (line (storedLine (now plan) k)) ⌝ }
     ensures { λ r. ⌜ Wrote (now (out .entry)) at (line (storedLine (now (plan .entry)) k)) (now (out .exit)) r ⌝ }
 {
     let n = line_length(plan, k);
@@ -85,10 +82,11 @@ fn print_line(plan: &[u8], k: usize, out: &mut [u8], at: usize) -> usize
 
 // All lines of a stored plan.
 fn print_lines(plan: &[u8], out: &mut [u8], at: usize) -> usize
-    requires { ⌜ Room (now out) at (listing (decode (now plan))) ⌝ }
+    requires { ⌜ (laidOut (now plan) ≡ true) × Room (now out) at (listing (decode (now plan))) ⌝ }
     ensures { λ r. ⌜ Wrote (now (out .entry)) at (listing (decode (now (plan .entry)))) (now (out .exit)) r ⌝ }
 {
-    let n = (two(plan, 4) as usize) + 1;
+    let s = sizes(plan);
+    let n = s.arrays + 1;
     let mut end = at;
     for k in 0..n {
         end = print_line(plan, k, out, end);
@@ -104,6 +102,7 @@ pub fn print_plan_bytes(plan: &[u8], out: &mut [u8], at: usize) -> usize
     print_lines(plan, out, at)
 }
 
+// The listing of a refusal.
 pub fn print_refusal(r: Refusal, out: &mut [u8], at: usize) -> usize
     requires { ⌜ at + maxListing ≤ length (now out) ⌝ }
     ensures { λ end. ⌜ Wrote (now (out .entry)) at (refused (numberOf r)) (now (out .exit)) end ⌝ }
@@ -113,6 +112,7 @@ pub fn print_refusal(r: Refusal, out: &mut [u8], at: usize) -> usize
     put_bytes(out, second, b"\n")
 }
 
+// The listing of a text that is refused.
 pub fn print_text_refusal(out: &mut [u8], at: usize) -> usize
     requires { ⌜ at + maxListing ≤ length (now out) ⌝ }
     ensures { λ r. ⌜ Wrote (now (out .entry)) at refusedText (now (out .exit)) r ⌝ }

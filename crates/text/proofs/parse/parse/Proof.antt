@@ -27,14 +27,14 @@ shared-slice-read-b c = search needs
 is-digit-requires : tie.Need-is-digit-requires Inv-loop μ-loop
 is-digit-requires c κs = search needs
 
-mul-grown : tie.Need-mul-grown Inv-loop μ-loop
-mul-grown c = search (needs, scanned-scaled)
+mul-with-digit : tie.Need-mul-with-digit Inv-loop μ-loop
+mul-with-digit c = search (needs, scanned-scaled)
 
-array-read-grown : tie.Need-array-read-grown Inv-loop μ-loop
-array-read-grown c = search (needs, scanned-room)
+array-read-with-digit : tie.Need-array-read-with-digit Inv-loop μ-loop
+array-read-with-digit c = search (needs, scanned-room)
 
-grown-requires : tie.Need-grown-requires Inv-loop μ-loop
-grown-requires c κs = search (needs, digit-test)
+with-digit-requires : tie.Need-with-digit-requires Inv-loop μ-loop
+with-digit-requires c κs = search (needs, digit-test)
 
 refused-requires-2 : tie.Need-refused-requires-2 Inv-loop μ-loop
 refused-requires-2 c κs = search needs
@@ -43,7 +43,7 @@ returns-2 : tie.Need-returns-2 Inv-loop μ-loop
 returns-2 c =
     let test = c .before .before .before .before in
     let turn = test .before .before in
-    too-large (turn .before .loop .inv) (turn .loop-test .taken) _ (test .is-digit .ensures) (c .before .before .before .if2 .taken) _ (c .before .before .grown .ensures) _ (c .refused2 .ensures) (search needs)
+    too-large (turn .before .loop .inv) (turn .loop-test .taken) _ (test .is-digit .ensures) (c .before .before .before .if2 .taken) _ (c .before .before .with-digit .ensures) _ (c .refused2 .ensures) (search needs)
 
 cast-numbers : tie.Need-cast-numbers Inv-loop μ-loop
 cast-numbers c = search needs
@@ -63,8 +63,8 @@ refused-requires-3 c κs = search needs
 returns-3 : tie.Need-returns-3 Inv-loop μ-loop
 returns-3 c = search (needs, other-byte)
 
-size-requires : tie.Need-size-requires Inv-loop μ-loop
-size-requires c κs = search needs
+one-if-requires : tie.Need-one-if-requires Inv-loop μ-loop
+one-if-requires c κs = search needs
 
 add-count : tie.Need-add-count Inv-loop μ-loop
 add-count c = search (needs, count-fits)
@@ -86,8 +86,8 @@ loop-again c =
     (λ v. scanned-same (scanned-gap w l _ d (v .0 .left) _ (v .1 .ensures) (v .2 .left) _ (v .3 .ensures)) (v .4) (v .5) (v .6))
     (c .if2 .came)
 
-size-requires-2 : tie.Need-size-requires-2 Inv-loop μ-loop
-size-requires-2 c κs = search needs
+one-if-requires-2 : tie.Need-one-if-requires-2 Inv-loop μ-loop
+one-if-requires-2 c κs = search needs
 
 add-count-2 : tie.Need-add-count-2 Inv-loop μ-loop
 add-count-2 c = search (needs, count-fits)
@@ -98,7 +98,7 @@ refused-requires-4 c κs = search needs
 returns-4 : tie.Need-returns-4 Inv-loop μ-loop
 returns-4 c =
     let end = c .before .before .before in
-    too-few (end .before .loop .inv) (end .loop-test .left) _ (c .before .before .size2 .ensures) _ (c .refused4 .ensures) (search needs)
+    too-few (end .before .loop .inv) (end .loop-test .left) _ (c .before .before .one-if2 .ensures) _ (c .refused4 .ensures) (search needs)
 
 returns-5 : tie.Need-returns-5 Inv-loop μ-loop
 returns-5 c = search (needs, accepted-text)
@@ -114,9 +114,9 @@ parse-spec =
     loop-holds
     shared-slice-read-b
     is-digit-requires
-    mul-grown
-    array-read-grown
-    grown-requires
+    mul-with-digit
+    array-read-with-digit
+    with-digit-requires
     refused-requires-2
     returns-2
     cast-numbers
@@ -125,12 +125,12 @@ parse-spec =
     is-gap-requires
     refused-requires-3
     returns-3
-    size-requires
+    one-if-requires
     add-count
     add-i
     loop-less
     loop-again
-    size-requires-2
+    one-if-requires-2
     add-count-2
     refused-requires-4
     returns-4

@@ -1,43 +1,25 @@
-use Rattle.text.proofs.Lines.{weight-read, count-read}
+use Rattle.text.proofs.Lines.{weight-there, count-there, weight-read, count-read}
 use borrow.Author.Needs.{needs}
 use Rattle.text.proofs.print.array_number.Statement.{statement}
 use Rattle.text.proofs.print.array_number.Tie as tie
 
-mul-four : tie.Need-mul-four
-mul-four c = search needs
+sub-count-at : tie.Need-sub-count-at
+sub-count-at c = search needs
 
-add-four : tie.Need-add-four
-add-four c = search needs
+sub-count-at-2 : tie.Need-sub-count-at-2
+sub-count-at-2 c = search needs
 
-four-requires : tie.Need-four-requires
-four-requires c κs = search needs
+count-at-requires : tie.Need-count-at-requires
+count-at-requires c κs = let m = c .before .before .pre in count-there _ (m .0) _ _ (m .1) (m .2) (search needs) (m .3)
 
-cast-body : tie.Need-cast-body
-cast-body c = search needs
-
-sub-two : tie.Need-sub-two
-sub-two c = search needs
-
-mul-two : tie.Need-mul-two
-mul-two c = search needs
-
-add-two : tie.Need-add-two
-add-two c = search needs
-
-two-requires : tie.Need-two-requires
-two-requires c κs = search needs
+cast-result : tie.Need-cast-result
+cast-result c = search needs
 
 returns : tie.Need-returns
 returns c = search (needs, count-read)
 
-mul-four-2 : tie.Need-mul-four-2
-mul-four-2 c = search needs
-
-add-four-2 : tie.Need-add-four-2
-add-four-2 c = search needs
-
-four-requires-2 : tie.Need-four-requires-2
-four-requires-2 c κs = search needs
+field-requires : tie.Need-field-requires
+field-requires c κs = search (needs, weight-there)
 
 returns-2 : tie.Need-returns-2
 returns-2 c = search (needs, weight-read)
@@ -46,16 +28,10 @@ pub array-number-spec : {M : Type 1} → statement M
 array-number-spec =
     tie.close
     (tie.spec
-    mul-four
-    add-four
-    four-requires
-    cast-body
-    sub-two
-    mul-two
-    add-two
-    two-requires
+    sub-count-at
+    sub-count-at-2
+    count-at-requires
+    cast-result
     returns
-    mul-four-2
-    add-four-2
-    four-requires-2
+    field-requires
     returns-2)

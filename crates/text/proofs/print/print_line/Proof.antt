@@ -1,5 +1,5 @@
 use mathlib.Core.Path.{_≡_}
-use Prim.Native.Nat.{_-_, _<_}
+use Prim.Native.Nat.{_-_}
 use lib.ListN.{length}
 use Rattle.text.specs.Text.{spaced}
 use Rattle.text.specs.Write.{storedLine}
@@ -10,7 +10,7 @@ use Rattle.text.proofs.print.print_line.Statement.{statement}
 use Rattle.text.proofs.print.print_line.Tie as tie
 
 abbrev Inv-loop : tie.InvT-loop
-Inv-loop plan k out₀ at n end₀ i₀ t8 out end i = (n < 65537) × (n ≡ length (storedLine plan k)) × Writing (partOf (storedLine plan k)) n i (spaced (storedLine plan k)) out₀ at out end
+Inv-loop plan k out₀ at n end₀ i₀ t8 out end i = (n ≡ length (storedLine plan k)) × Writing (partOf (storedLine plan k)) n i (spaced (storedLine plan k)) out₀ at out end
 
 abbrev μ-loop : tie.MeasureT-loop
 μ-loop plan k out₀ at n end₀ i₀ t8 out end i = n - i
@@ -19,7 +19,7 @@ line-length-requires : tie.Need-line-length-requires Inv-loop μ-loop
 line-length-requires c κs = search needs
 
 loop-holds : tie.Need-loop-holds Inv-loop μ-loop
-loop-holds c = (search needs, search needs, search (needs, numbers-none))
+loop-holds c = (search needs, search (needs, numbers-none))
 
 line-number-requires : tie.Need-line-number-requires Inv-loop μ-loop
 line-number-requires c κs = search needs
@@ -37,7 +37,7 @@ loop-again : tie.Need-loop-again Inv-loop μ-loop
 loop-again c =
     let call = c .before .before in
     let turn = call .before .before .before in
-    (search needs, search needs, place-more _ (turn .before .loop .inv .2) (search needs) (call .before .line-number .ensures) (call .put-number .ensures))
+    (search needs, place-more _ (turn .before .loop .inv .1) (search needs) (call .before .line-number .ensures) (call .put-number .ensures))
 
 slice-aggregate-put-bytes : tie.Need-slice-aggregate-put-bytes Inv-loop μ-loop
 slice-aggregate-put-bytes c = search needs

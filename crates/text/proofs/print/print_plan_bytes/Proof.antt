@@ -6,7 +6,7 @@ use Rattle.text.proofs.print.print_plan_bytes.Tie as tie
 print-lines-requires : tie.Need-print-lines-requires
 print-lines-requires c κs =
     let start = c .before .before .before in
-    listing-room _ (start .pre .0) (λ k. c .before .before .shared-slice-known .given k .fits) _ _ (start .pre .1)
+    (start .pre .0, listing-room _ (start .pre .0) (λ k. c .before .before .shared-slice-known .given k .fits) _ _ (start .pre .1))
 
 same-length : tie.Need-same-length
 same-length c = search needs

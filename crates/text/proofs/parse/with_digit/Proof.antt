@@ -1,7 +1,7 @@
 use Rattle.text.proofs.Scans.{digit-least}
 use borrow.Author.Needs.{needs}
-use Rattle.text.proofs.parse.grown.Statement.{statement}
-use Rattle.text.proofs.parse.grown.Tie as tie
+use Rattle.text.proofs.parse.with_digit.Statement.{statement}
+use Rattle.text.proofs.parse.with_digit.Tie as tie
 
 mul-result : tie.Need-mul-result
 mul-result c = search needs
@@ -18,5 +18,5 @@ add-result c = search needs
 returns : tie.Need-returns
 returns c = search needs
 
-pub grown-spec : {M : Type 1} → statement M
-grown-spec = tie.close (tie.spec mul-result sub-result cast-result add-result returns)
+pub with-digit-spec : {M : Type 1} → statement M
+with-digit-spec = tie.close (tie.spec mul-result sub-result cast-result add-result returns)
