@@ -1,9 +1,8 @@
 -- The tables of specs/Examples.antt hold, by computation. Assumes nothing.
 use mathlib.Core.Path.{_≡_, refl}
-use mathlib.Core.Bool.{true, false}
+use mathlib.Core.Bool.{true, not}
 use mathlib.Core.List.{List, [], _∷_, map, zipWith}
 use Prim.Native.Nat.{ℕ}
-use lib.ListN.{replicate}
 use lib.Dec.{eqb}
 use Rattle.table.specs.Lists.{tabulate, sum, joinTo, least, all}
 use Rattle.table.specs.Table.{total, entryPlaces, lines}
@@ -29,6 +28,6 @@ pub draws-hold : tabulate 10 (arrayFor (planOf 2 2 10 (3 ∷ 4 ∷ 5 ∷ 6 ∷ [
 unfolding planOf roundsFrom weightOf limitOf without tabulate sum least all total entryPlaces lines whole gap roundsTo firstOf isRounding firstRounding zipWith arrayFor
 draws-hold = refl
 
-pub slips-shut : (map (λ x. x .computed) slips ≡ map (λ x. x .right) slips) × (map (λ x. eqb (x .right) (x .wrong)) slips ≡ replicate 4 false)
+pub slips-shut : (map (λ x. x .computed) slips ≡ map (λ x. x .right) slips) × (all (λ x. not (eqb (x .right) (x .wrong))) slips ≡ true)
 unfolding openAnswer encode head entry bytes joinTo number laidOut decode consistent weightOf limitOf tabulate sum least all total entryPlaces lines whole roundsTo isRounding
 slips-shut = (refl, refl)

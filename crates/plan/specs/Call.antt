@@ -17,6 +17,7 @@ use Rattle.plan.specs.Rounds.{planOf}
 unfoldable pub planBytes : ℕ → ℕ → ℕ → List ℕ → List ℕ
 planBytes r c d g = encode (planOf r c d g)
 
+-- a refusal of the table comes first, and then what else may apply
 abbrev pub ifAccepted : Checked → Planned → Planned
 ifAccepted (checked.Accepted t) rest = rest
 ifAccepted (checked.Refused x) rest = Refused x
@@ -25,7 +26,7 @@ ifAccepted (checked.Refused x) rest = Refused x
 unfoldable pub plannedOf : ℕ → ℕ → ℕ → List ℕ → ℕ → Planned
 plannedOf r c d g room = cond (leb (length (planBytes r c d g)) room) (Length (length (planBytes r c d g))) (Refused Buffer)
 
--- 1 to 4 first
+-- the answer for any table and such a buffer: 1 to 4, else that of an accepted table
 unfoldable pub planAnswer : ℕ → ℕ → ℕ → List ℕ → ℕ → Planned
 planAnswer r c d g room = ifAccepted (checkOf r c d g) (plannedOf r c d g room)
 
@@ -34,6 +35,7 @@ abbrev pub plannedNumber : Planned → ℕ
 plannedNumber (Length n) = n
 plannedNumber (Refused x) = numberOf x
 
+-- "On a refusal every lent buffer [..] keeps its contents.": the buffer after an answer, of the new contents and the old
 abbrev pub afterPlan : Planned → List ℕ → List ℕ → List ℕ
 afterPlan (Length n) new old = new
 afterPlan (Refused x) new old = old

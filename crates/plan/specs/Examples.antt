@@ -5,9 +5,7 @@ use Prim.Native.Nat.{ℕ, _*_}
 use lib.ListN.{replicate}
 use Rattle.table.specs.Lists.{tabulate, least}
 use Rattle.table.specs.Table.{total, cellPlaces}
-use Rattle.table.specs.Check.{numberOf, checkOf}
-use Rattle.table.specs.declared.Checked.{Checked}
-use Rattle.table.specs.declared.Checked.the-variants.{Accepted, Refused}
+use Rattle.table.specs.Check.{checkedNumber, checkOf}
 use Rattle.rounding.specs.Rounding.{isRounding}
 use Rattle.stored.specs.Plan.{Weighted, Plan}
 use Rattle.stored.specs.Form.{encode}
@@ -78,10 +76,6 @@ bounds =
     ∷ record { rows = 1; columns = 1; denominator = 1; cells = 1001 ∷ 0 ∷ []; number = 3 }
     ∷ []
 
-abbrev pub checkedNumber : Checked → ℕ
-checkedNumber (Accepted t) = 0
-checkedNumber (Refused x) = numberOf x
-
 abbrev pub checked : Bound → ℕ
 checked x = checkedNumber (checkOf (x .rows) (x .columns) (x .denominator) (x .cells))
 
@@ -119,7 +113,7 @@ bit false = 0
 
 abbrev pub slips : List Slip
 slips =
-    -- it does not open, 6; the program of old took it
+    -- it does not open: 6
     record { computed = openedNumber (openAnswer (encode leftover)); right = 6; wrong = 0 }
     -- the first column binds at 2, and no cell below 5
     ∷ record {
@@ -129,6 +123,6 @@ slips =
     }
     -- "Rounding each cell alone and mending totals afterwards.": four halves, each rounded down, are no controlled rounding
     ∷ record { computed = bit (isRounding 2 2 2 (1 ∷ 1 ∷ 1 ∷ 1 ∷ []) (0 ∷ 0 ∷ 0 ∷ 0 ∷ [])); right = 0; wrong = 1 }
-    -- "Letting a whole cell vary.": 4 over 4 as 2, with the totals kept
-    ∷ record { computed = bit (isRounding 1 2 4 (4 ∷ 6 ∷ []) (2 ∷ 1 ∷ [])); right = 0; wrong = 1 }
+    -- "Letting a whole cell vary.": four cells of 4 over 4, as 2 and 0, keep every total and are no controlled rounding
+    ∷ record { computed = bit (isRounding 2 2 4 (4 ∷ 4 ∷ 4 ∷ 4 ∷ []) (2 ∷ 0 ∷ 0 ∷ 2 ∷ [])); right = 0; wrong = 1 }
     ∷ []

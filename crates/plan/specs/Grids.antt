@@ -13,7 +13,7 @@ use Rattle.stored.specs.Plan.{Weighted, arrayAt}
 use Rattle.plan.specs.Rounds.{limitOf, weightOf, without}
 use Rattle.plan.specs.Progress.{Progress}
 
--- counts that round the entries over w, with numbers that are small
+-- counts that round the entries over w, with numbers that are small: 144 · 1000 · 65,535 is the largest entry
 pub record Rounded (w : ℕ) (e n : List ℕ) : Type 0 where
   pub some : 0 < w
   pub small : w ≤ 65535
@@ -48,7 +48,7 @@ pub record RoundDone (w : ℕ) (e n : List ℕ) (x : ℕ) (e' : List ℕ) : Type
   pub weight : (r c : ℕ) (g : List ℕ) → Shape r c g → e ≡ gridOf r c g → x ≡ weightOf r c w g (firstRounding r c w g)
   pub left : (r c : ℕ) (g : List ℕ) → Shape r c g → e ≡ gridOf r c g → e' ≡ gridOf r c (without x (firstRounding r c w g) g)
 
--- where the rounds stand: what is left, and the weights and arrays so far
+-- where the rounds stand: what is left, and the weights and arrays so far, in a scratch for 170 weights and 170 · 144 counts
 pub record Held (r c d : ℕ) (g : List ℕ) (w k : ℕ) (e weights counts : List ℕ) : Type 0 where
   pub rest : List ℕ
   pub done : List Weighted

@@ -1,13 +1,13 @@
 // The plan of a table: Ernst's rounds, and the plan in stored form 1.
 ghost use mathlib.Core.Path.{_≡_};
-ghost use mathlib.Core.Bool.{false};
+ghost use mathlib.Core.Bool.{true, not};
 ghost use mathlib.Core.List.{List, [], _∷_, map};
 ghost use Prim.Native.Nat.{ℕ, _*_, _≤_};
 ghost use lib.ListN.{length, replicate};
 ghost use lib.Dec.{eqb};
 ghost use Rattle.table.specs.Answer.{written};
 ghost use Rattle.table.specs.Check.{checkOf};
-ghost use Rattle.table.specs.Lists.{tabulate};
+ghost use Rattle.table.specs.Lists.{tabulate, all};
 ghost use Rattle.table.specs.Shape.{IsTable};
 ghost use Rattle.stored.specs.Plan.{arrayFor};
 ghost use Rattle.plan.specs.Rounds.{roundsFrom, planOf};
@@ -97,12 +97,13 @@ pub fn planned_number(r: Planned) -> u32
     }
 }
 
-// The examples of the specification that carry proof, and the slips that it lists.
+// The examples of the specification that carry proof, and four of the five slips that it lists; the fifth, a refused draw
+// counted in the tally, is campaign's.
 pub fn claims()
     ensures examples { λ _. ⌜ map planned examples ≡ map (λ x. x .listing) examples ⌝ }
     ensures draws { λ _. ⌜ tabulate 10 (arrayFor (planOf 2 2 10 (3 ∷ 4 ∷ 5 ∷ 6 ∷ []) .arrays)) ≡ drawsOfFirst ⌝ }
     ensures zeros { λ _. ⌜ ((r c d : ℕ) → 1 ≤ r → r ≤ 12 → 1 ≤ c → c ≤ 12 → 1 ≤ d
         → planOf r c d (replicate (r * c) 0) .arrays ≡ record { weight = d; counts = replicate (r * c) 0 } ∷ []) ⌝ }
     ensures bounds { λ _. ⌜ map checked bounds ≡ map (λ x. x .number) bounds ⌝ }
-    ensures slips { λ _. ⌜ (map (λ x. x .computed) slips ≡ map (λ x. x .right) slips) × (map (λ x. eqb (x .right) (x .wrong)) slips ≡ replicate 4 false) ⌝ }
+    ensures slips { λ _. ⌜ (map (λ x. x .computed) slips ≡ map (λ x. x .right) slips) × (all (λ x. not (eqb (x .right) (x .wrong))) slips ≡ true) ⌝ }
 {}

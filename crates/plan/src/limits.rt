@@ -30,6 +30,7 @@ pub fn limits(w: u64, e: &[u64; 169], n: &[u64; 169], l: &mut [u64; 169])
     }
 }
 
+// The smaller of two numbers.
 fn smaller(x: u64, y: u64) -> u64
     ensures { λ r. ⌜ r ≡ min x y ⌝ }
 {

@@ -9,6 +9,7 @@ use rounding::write::write_cells;
 use table::Table;
 use table::entries::entries;
 
+// A weight in 32 bits, as it is stored.
 fn narrow(x: u64) -> u32
     requires { ⌜ x ≤ 65535 ⌝ }
     ensures { λ r. ⌜ r ≡ x ⌝ }

@@ -24,6 +24,11 @@ numberOf Number = 8
 numberOf Record = 9
 numberOf Taken = 10
 
+-- the number that each answer of the check stands for: 0 for an accepted table, else the refusal's
+abbrev pub checkedNumber : Checked → ℕ
+checkedNumber (Accepted t) = 0
+checkedNumber (Refused x) = numberOf x
+
 -- from 1 to a bound
 abbrev pub upTo : ℕ → ℕ → Bool
 upTo bound n = leb 1 n && leb n bound
