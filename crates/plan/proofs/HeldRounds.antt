@@ -29,7 +29,7 @@ use Rattle.plan.specs.Rounds.{weightOf, without, notWhole}
 use Rattle.plan.specs.Progress.{Progress}
 use Rattle.plan.specs.Grids.{RoundDone, Held, AllHeld}
 use Rattle.plan.proofs.Leasts.{sum-map-length}
-use Rattle.plan.proofs.Progressing.{progress-start, progress-step, array-rounds, weight, array, n, low-weight, high-weight}
+use Rattle.plan.proofs.Progressing.{progress-start, progress-step, array-rounds, nextWeight, nextWeighted, nextArray, low-weight, high-weight}
 use Rattle.plan.proofs.GridRounds.{entry-of}
 
 pub held-start : {r c d : ℕ} {g : List ℕ} (e weights counts : List ℕ) → IsTable r c d g → length weights ≡ 170 → length counts ≡ 24480 → e ≡ gridOf r c g
@@ -95,15 +95,15 @@ module _ {r c d : ℕ} {g : List ℕ} (t : IsTable r c d g) {w k : ℕ} {e weigh
       first : IsFirst r c w (o .rest) (firstRounding r c w (o .rest))
       first = u .first r c (o .rest) (o .progress .shape) (o .grid)
 
-      x-is : x ≡ weight (o .progress) wp first
-      unfolding weight
+      x-is : x ≡ nextWeight (o .progress) wp first
+      unfolding nextWeight
       x-is = u .weight r c (o .rest) (o .progress .shape) (o .grid)
 
       a-is : a ≡ gridOf r c (firstRounding r c w (o .rest))
       a-is = u .array r c (o .rest) (o .progress .shape) (o .grid)
 
       rounds-table : isRounding r c d g (firstRounding r c w (o .rest)) ≡ true
-      unfolding n
+      unfolding nextArray
       rounds-table = array-rounds (o .progress) wp first
 
       array-shape : Shape r c (firstRounding r c w (o .rest))
@@ -136,24 +136,24 @@ module _ {r c d : ℕ} {g : List ℕ} (t : IsTable r c d g) {w k : ℕ} {e weigh
       -- one array more
       module _ {v : ℕ} (ve : v ≡ x) {counts' : List ℕ} (f : Filled (cellIn a c) (k * (r * c)) counts counts' (r * c)) where
         done' : List Weighted
-        done' = o .done ++ (array (o .progress) wp first ∷ [])
+        done' = o .done ++ (nextWeighted (o .progress) wp first ∷ [])
 
         at-old : (i : ℕ) → i < k → arrayAt done' i ≡ arrayAt (o .done) i
         unfolding done'
         at-old i h = List·getD-append (o .done) _ _ i (omega (arith, o .progress .count))
 
-        at-new : arrayAt done' k ≡ array (o .progress) wp first
+        at-new : arrayAt done' k ≡ nextWeighted (o .progress) wp first
         unfolding done'
         at-new = ap (λ (j : ℕ). arrayAt done' j) (sym (o .progress .count)) ∙ getD-append-seam (o .done) _ [] _
 
         weights' : (i : ℕ) → i < k + 1 → getD (set weights k v) i 0 ≡ arrayAt done' i .weight
-        unfolding array
+        unfolding nextWeighted
         weights' = each-more (λ i y. y ≡ arrayAt done' i .weight) weights k v (omega (arith, held-room, o .weights-len))
             (λ i h. o .weight-at i h ∙ ap (λ (y : Weighted). y .weight) (sym (at-old i h)))
             (ve ∙ x-is ∙ ap (λ (y : Weighted). y .weight) (sym at-new))
 
         counts-at : (i j : ℕ) → i < k + 1 → j < r * c → getD counts' (i * (r * c) + j) 0 ≡ getD (arrayAt done' i .counts) j 0
-        unfolding array n
+        unfolding nextWeighted nextArray
         counts-at i j h l = go (decLt i k)
           where
             go : Dec (i < k) → getD counts' (i * (r * c) + j) 0 ≡ getD (arrayAt done' i .counts) j 0
@@ -166,11 +166,11 @@ module _ {r c d : ℕ} {g : List ℕ} (t : IsTable r c d g) {w k : ℕ} {e weigh
                 rw q (f .inside j l ∙ count-is j l ∙ ap (λ (y : Weighted). getD (y .counts) j 0) (sym at-new))
 
         pub held-step : Held r c d g (w - x) (k + 1) e' (set weights k v) counts'
-        unfolding weight done'
+        unfolding nextWeight done'
         held-step = record {
           rest = without x (firstRounding r c w (o .rest)) (o .rest);
           done = done';
-          progress = subst (λ (y : ℕ). Progress r c d g (w - y) (k + 1) (without y (firstRounding r c w (o .rest)) (o .rest)) (o .done ++ (array (o .progress) wp first ∷ []))) (sym x-is) (progress-step (o .progress) wp first);
+          progress = subst (λ (y : ℕ). Progress r c d g (w - y) (k + 1) (without y (firstRounding r c w (o .rest)) (o .rest)) (o .done ++ (nextWeighted (o .progress) wp first ∷ []))) (sym x-is) (progress-step (o .progress) wp first);
           grid = u .left r c (o .rest) (o .progress .shape) (o .grid);
           weights-len = length-set weights k v ∙ o .weights-len;
           counts-len = f .len ∙ o .counts-len;

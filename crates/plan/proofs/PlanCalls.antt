@@ -22,7 +22,6 @@ use Rattle.stored.specs.Form.{planLength, encode}
 use Rattle.stored.specs.Write.{heldPlan, Writable}
 use Rattle.plan.specs.declared.Planned.{Planned}
 use Rattle.plan.specs.declared.Planned.the-variants.{Length, Refused}
-use Rattle.plan.specs.Rounds.{roundsFrom, planOf}
 use Rattle.plan.specs.Call.{planBytes, ifAccepted, plannedOf, planAnswer, plannedNumber, afterPlan}
 use Rattle.plan.specs.Grids.{AllHeld}
 use Rattle.plan.specs.Promises.{Promises}
@@ -78,11 +77,11 @@ module _ (r c d : ℕ) (g : List ℕ) (k : Checked) (e : k ≡ checkOf r c d g) 
     pub answered : (room : ℕ) (old new : List ℕ) (p : Planned)
         → (p ≡ plannedOf (t .rows) (t .columns) d g room)
         × ((new ≡ afterPlan p (written (planBytes (t .rows) (t .columns) d g) old) old)
-        × Promises (t .rows) (t .columns) d g (roundsFrom d (t .rows) (t .columns) d g))
+        × Promises (t .rows) (t .columns) d g)
         → (p ≡ planAnswer r c d g room)
         × ((new ≡ afterPlan p (written (planBytes r c d g) old) old)
-        × ((u : Table) → checked.Accepted u ≡ checkOf r c d g → Promises r c d g (planOf r c d g .arrays)))
-    unfolding planAnswer planOf
+        × ((u : Table) → checked.Accepted u ≡ checkOf r c d g → Promises r c d g))
+    unfolding planAnswer
     answered room old new p f =
         let f' = rw (told .1) at f in
         (f' .0 ∙ rw (← e, h) refl, (f' .1 .0, λ u q. f' .1 .1))
@@ -101,7 +100,7 @@ refusal-small Record = omega arith
 refusal-small Taken = omega arith
 
 pub number-small : (r c d : ℕ) (g : List ℕ) (room : ℕ) (p : Planned) → p ≡ planAnswer r c d g room
-    → ((t : Table) → checked.Accepted t ≡ checkOf r c d g → Promises r c d g (planOf r c d g .arrays)) → plannedNumber p ≤ 50912
+    → ((t : Table) → checked.Accepted t ≡ checkOf r c d g → Promises r c d g) → plannedNumber p ≤ 50912
 unfolding planAnswer plannedOf
 number-small r c d g room p e f = rw e (go (checkOf r c d g) refl)
   where

@@ -32,7 +32,7 @@ use Rattle.plan.specs.Grids.{Held, AllHeld}
 use Rattle.plan.specs.Promises.{Promises}
 use Rattle.plan.proofs.GridMembers.{cell-in}
 use Rattle.plan.proofs.OneRound.{total-cell}
-use Rattle.plan.proofs.Progressing.{progress-end}
+use Rattle.plan.proofs.Progressing.{progress-end, end-rounds}
 use Rattle.rounding.proofs.Calls.{array-small}
 use Rattle.plan.proofs.HeldRounds.{few-not-whole}
 
@@ -196,8 +196,10 @@ module _ {r c d : ℕ} {g : List ℕ} (t : IsTable r c d g) {k : ℕ} {weights c
   unfolding planBytes planOf
   bytes-length = encode-length (planOf r c d g) ∙ ap (planLength r c) count-is
 
-  pub promises : Promises r c d g (roundsFrom d r c d g)
+  pub promises : Promises r c d g
+  unfolding planOf
   promises = record {
+    rounds = end-rounds p;
     positive = all-positive;
     weights = all-weights;
     sums = all-sums;

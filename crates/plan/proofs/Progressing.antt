@@ -1,13 +1,14 @@
 -- How planning proceeds: its start, one more round, its end. Assumes nothing.
-use mathlib.Core.Path.{_≡_, refl, sym, ap, _∙_}
+use mathlib.Core.Path.{_≡_, refl, sym, ap, subst, _∙_}
 use mathlib.Core.Bool.{Bool, true, false, _&&_}
 use mathlib.Core.List.{List, [], _∷_, _++_, map, append-nil, append-assoc, map-append, List·Memᴰ as Member}
 use Prim.Native.Nat.{ℕ, zero, suc, _+_, _-_, _*_, _/_, _%_, _≤_, _<_}
+use native.Mathlib.Decide.{ℕ-discrete}
 use native.Mathlib.Nat.{div-add-mod', mod-lt, add-mul, one-mul}
 use native.Mathlib.Omega.{arith}
 use lib.ListN.{length, length-append}
-use lib.Dec.{leb}
-use borrow.Author.Tests.{le-leb}
+use lib.Dec.{leb, eqb}
+use borrow.Author.Tests.{le-leb, eq-eqb}
 use Rattle.table.specs.Lists.{sum, all}
 use Rattle.table.specs.Table.{total, entryPlaces}
 use Rattle.table.specs.Whole.{down, up, gap, roundsTo}
@@ -17,7 +18,7 @@ use Rattle.table.proofs.Roundings.{gap-le, gap-whole, gap-part, rounds}
 use Rattle.rounding.specs.Rounding.{isRounding, IsFirst, firstRounding}
 use Rattle.rounding.proofs.Roundings.{rounding-length}
 use Rattle.stored.specs.Plan.{Weighted}
-use Rattle.plan.specs.Rounds.{weightOf, without, roundsFrom, notWhole}
+use Rattle.plan.specs.Rounds.{weightOf, without, roundsFrom, IsRound, AreRounds, notWhole}
 use Rattle.plan.specs.Progress.{Progress}
 use Rattle.plan.proofs.Leasts.{all-member, sum-append}
 use Rattle.plan.proofs.OneRound.{weight-low, weight-high, rest, rest-shape, rest-total, rest-low, rest-high, array-low, array-high, fewer}
@@ -27,7 +28,7 @@ down-le : (d e : ℕ) → 0 < d → down d e * d ≤ e
 down-le d e p = omega (arith, div-add-mod' e d)
 
 up-ge : (d e : ℕ) → 0 < d → e ≤ up d e * d
-up-ge d e p = go (native.Mathlib.Decide.ℕ-discrete (e % d) 0)
+up-ge d e p = go (ℕ-discrete (e % d) 0)
   where
     go : Dec (e % d ≡ 0) → e ≤ up d e * d
     go (yes z) = omega (arith, div-add-mod' e d, add-mul (e / d) (gap d e) d)
@@ -43,6 +44,7 @@ progress-start {r} {c} {d} {g} t = record {
   fuel = d;
   enough = omega arith;
   rounds = refl;
+  are-rounds = λ l h. h;
   weights = omega arith;
   positive = refl;
   rounded = refl;
@@ -65,22 +67,22 @@ module _ (a : Weighted) (l : List Weighted) where
 
 module _ {r c d : ℕ} {g : List ℕ} {w k : ℕ} {left : List ℕ} {done : List Weighted} (p : Progress r c d g w k left done)
     (wp : 0 < w) (f : IsFirst r c w left (firstRounding r c w left)) where
-  unfoldable pub n : List ℕ
-  n = firstRounding r c w left
+  unfoldable pub nextArray : List ℕ
+  nextArray = firstRounding r c w left
 
-  unfoldable pub weight : ℕ
-  weight = weightOf r c w left (firstRounding r c w left)
+  unfoldable pub nextWeight : ℕ
+  nextWeight = weightOf r c w left (firstRounding r c w left)
 
-  unfoldable pub array : Weighted
-  array = record { weight = weight; counts = n }
+  unfoldable pub nextWeighted : Weighted
+  nextWeighted = record { weight = nextWeight; counts = nextArray }
 
-  pub low-weight : 0 < weight
-  unfolding weight n
-  low-weight = weight-low (p .shape) w wp n (f .rounding)
+  pub low-weight : 0 < nextWeight
+  unfolding nextWeight nextArray
+  low-weight = weight-low (p .shape) w wp nextArray (f .rounding)
 
-  pub high-weight : weight ≤ w
-  unfolding weight n
-  high-weight = weight-high (p .shape) w wp n (f .rounding)
+  pub high-weight : nextWeight ≤ w
+  unfolding nextWeight nextArray
+  high-weight = weight-high (p .shape) w wp nextArray (f .rounding)
 
   unfolded : (fuel w : ℕ) → 0 < w → w ≤ fuel → (left : List ℕ) → (m : ℕ) × (fuel ≡ suc m) × (roundsFrom fuel r c w left
       ≡ record { weight = weightOf r c w left (firstRounding r c w left); counts = firstRounding r c w left }
@@ -90,33 +92,43 @@ module _ {r c d : ℕ} {g : List ℕ} {w k : ℕ} {left : List ℕ} {done : List
   unfolded (suc m) zero a b l = absurd (omega arith)
   unfolded (suc m) (suc v) a b l = (m, refl, refl)
 
-  pub array-rounds : isRounding r c d g n ≡ true
-  unfolding isRounding n
-  array-rounds = and-both (eq-length) (all-member (λ s. roundsTo d (total g s) (total n s)) (entryPlaces r c)
-      (λ s m. rounds d (total g s) (total n s)
-      (array-low (p .shape) w wp n (f .rounding) m (down d (total g s)) (up d (total g s)) (p .low s m) (p .high s m))
-      (array-high (p .shape) w wp n (f .rounding) m (down d (total g s)) (up d (total g s)) (p .low s m) (p .high s m))))
+  pub array-rounds : isRounding r c d g nextArray ≡ true
+  unfolding isRounding nextArray
+  array-rounds = and-both eq-length (all-member (λ s. roundsTo d (total g s) (total nextArray s)) (entryPlaces r c)
+      (λ s m. rounds d (total g s) (total nextArray s)
+      (array-low (p .shape) w wp nextArray (f .rounding) m (down d (total g s)) (up d (total g s)) (p .low s m) (p .high s m))
+      (array-high (p .shape) w wp nextArray (f .rounding) m (down d (total g s)) (up d (total g s)) (p .low s m) (p .high s m))))
     where
-      eq-length : lib.Dec.eqb (length n) (r * c) ≡ true
-      eq-length = borrow.Author.Tests.eq-eqb _ _ (rounding-length (p .shape) w n (f .rounding))
+      eq-length : eqb (length nextArray) (r * c) ≡ true
+      eq-length = eq-eqb _ _ (rounding-length (p .shape) w nextArray (f .rounding))
 
-  pub progress-step : Progress r c d g (w - weight) (k + 1) (without weight (firstRounding r c w left) left) (done ++ (array ∷ []))
-  unfolding weight array n rest
+  -- one round more, before any that give out the rest
+  is-round : IsRound r c w left nextWeighted
+  unfolding nextWeighted nextWeight nextArray
+  is-round = record { remaining = wp; first = f; weight = refl }
+
+  one-more-round : (l : List Weighted) → AreRounds r c (w - nextWeight) (without nextWeight nextArray left) l → AreRounds r c d g ((done ++ (nextWeighted ∷ [])) ++ l)
+  unfolding AreRounds nextWeighted
+  one-more-round l h = subst (AreRounds r c d g) (sym (append-assoc done (nextWeighted ∷ []) l)) (p .are-rounds (nextWeighted ∷ l) (is-round, h))
+
+  pub progress-step : Progress r c d g (w - nextWeight) (k + 1) (without nextWeight (firstRounding r c w left) left) (done ++ (nextWeighted ∷ []))
+  unfolding nextWeight nextWeighted nextArray rest
   progress-step =
       let u = unfolded (p .fuel) w wp (p .enough) left in
       record {
-        shape = rest-shape (p .shape) w wp n (f .rounding);
-        count = length-append done (array ∷ []) ∙ omega (arith, p .count);
+        shape = rest-shape (p .shape) w wp nextArray (f .rounding);
+        count = length-append done (nextWeighted ∷ []) ∙ omega (arith, p .count);
         fuel = u .0;
         enough = omega (arith, p .enough, u .1, low-weight);
-        rounds = p .rounds ∙ ap (λ (l : List Weighted). done ++ l) (u .2) ∙ sym (append-assoc done (array ∷ []) _);
-        weights = omega (arith, p .weights, sum-one-more array done (λ a. a .weight), high-weight);
-        positive = all-one-more array done _ (p .positive) (le-leb 1 weight low-weight);
-        rounded = all-one-more array done _ (p .rounded) array-rounds;
-        sums = λ s. omega (arith, p .sums s, sum-one-more array done (λ a. a .weight * total (a .counts) s), rest-total (p .shape) w wp n (f .rounding) s);
-        low = λ s m. rest-low (p .shape) w wp n (f .rounding) m (down d (total g s)) (up d (total g s)) (p .low s m) (p .high s m);
-        high = λ s m. rest-high (p .shape) w wp n (f .rounding) m (down d (total g s)) (up d (total g s)) (p .low s m) (p .high s m);
-        few = λ h. omega (arith, p .few wp, fewer (p .shape) w wp n (f .rounding) h);
+        rounds = p .rounds ∙ ap (λ (l : List Weighted). done ++ l) (u .2) ∙ sym (append-assoc done (nextWeighted ∷ []) _);
+        are-rounds = one-more-round;
+        weights = omega (arith, p .weights, sum-one-more nextWeighted done (λ a. a .weight), high-weight);
+        positive = all-one-more nextWeighted done _ (p .positive) (le-leb 1 nextWeight low-weight);
+        rounded = all-one-more nextWeighted done _ (p .rounded) array-rounds;
+        sums = λ s. omega (arith, p .sums s, sum-one-more nextWeighted done (λ a. a .weight * total (a .counts) s), rest-total (p .shape) w wp nextArray (f .rounding) s);
+        low = λ s m. rest-low (p .shape) w wp nextArray (f .rounding) m (down d (total g s)) (up d (total g s)) (p .low s m) (p .high s m);
+        high = λ s m. rest-high (p .shape) w wp nextArray (f .rounding) m (down d (total g s)) (up d (total g s)) (p .low s m) (p .high s m);
+        few = λ h. omega (arith, p .few wp, fewer (p .shape) w wp nextArray (f .rounding) h);
         most = omega (arith, p .few wp);
       }
 
@@ -128,3 +140,8 @@ no-more (suc m) r c left = refl
 
 pub progress-end : {r c d : ℕ} {g : List ℕ} {k : ℕ} {left : List ℕ} {done : List Weighted} → Progress r c d g 0 k left done → roundsFrom d r c d g ≡ done
 progress-end {r} {c} {d} {g} {k} {left} {done} p = p .rounds ∙ ap (λ (l : List Weighted). done ++ l) (no-more (p .fuel) r c left) ∙ append-nil done
+
+-- and each is that of a round
+pub end-rounds : {r c d : ℕ} {g : List ℕ} {k : ℕ} {left : List ℕ} {done : List Weighted} → Progress r c d g 0 k left done → AreRounds r c d g (roundsFrom d r c d g)
+unfolding AreRounds
+end-rounds {r} {c} {d} {g} {k} {left} {done} p = subst (AreRounds r c d g) (append-nil done ∙ sym (progress-end p)) (p .are-rounds [] refl)

@@ -11,7 +11,7 @@ use Rattle.table.specs.Whole.{down, up}
 use Rattle.table.specs.Shape.{Shape}
 use Rattle.rounding.specs.Rounding.{isRounding}
 use Rattle.stored.specs.Plan.{Weighted}
-use Rattle.plan.specs.Rounds.{roundsFrom, notWhole}
+use Rattle.plan.specs.Rounds.{roundsFrom, AreRounds, notWhole}
 
 -- `done` are the arrays of the first k rounds, `left` is the remaining table over the remaining weight w
 pub record Progress (r c d : ℕ) (g : List ℕ) (w k : ℕ) (left : List ℕ) (done : List Weighted) : Type 0 where
@@ -21,6 +21,8 @@ pub record Progress (r c d : ℕ) (g : List ℕ) (w k : ℕ) (left : List ℕ) (
   pub fuel : ℕ
   pub enough : w ≤ fuel
   pub rounds : roundsFrom d r c d g ≡ done ++ roundsFrom fuel r c w left
+  -- those so far, and then any that give out all that is left
+  pub are-rounds : (l : List Weighted) → AreRounds r c w left l → AreRounds r c d g (done ++ l)
   -- weights, arrays, and what they add up to, for any places
   pub weights : w + sum (map (λ a. a .weight) done) ≡ d
   pub positive : all (λ a. leb 1 (a .weight)) done ≡ true

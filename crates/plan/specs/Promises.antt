@@ -8,25 +8,26 @@ use lib.Dec.{leb}
 use Rattle.table.specs.Lists.{sum, all}
 use Rattle.table.specs.Table.{total}
 use Rattle.rounding.specs.Rounding.{isRounding}
-use Rattle.stored.specs.Plan.{Weighted}
 use Rattle.stored.specs.Form.{planLength, decode}
 use Rattle.stored.specs.Open.{opens}
-use Rattle.plan.specs.Rounds.{roundsFrom, planOf, notWhole}
+use Rattle.plan.specs.Rounds.{planOf, AreRounds, notWhole}
 use Rattle.plan.specs.Call.{planBytes}
 
-pub record Promises (r c d : ℕ) (g : List ℕ) (arrays : List Weighted) : Type 0 where
+pub record Promises (r c d : ℕ) (g : List ℕ) : Type 0 where
+  -- each array is the first, in the stated order, of all controlled roundings of what is still to be given out, and has the weight of its round
+  pub rounds : AreRounds r c d g (planOf r c d g .arrays)
   -- the weights are at least 1 and add up to D
-  pub positive : all (λ a. leb 1 (a .weight)) arrays ≡ true
-  pub weights : sum (map (λ a. a .weight) arrays) ≡ d
+  pub positive : all (λ a. leb 1 (a .weight)) (planOf r c d g .arrays) ≡ true
+  pub weights : sum (map (λ a. a .weight) (planOf r c d g .arrays)) ≡ d
   -- the weighted counts add up to the table: for any places, so for every cell, row, column and the grand total
-  pub sums : (s : List ℕ) → sum (map (λ a. a .weight * total (a .counts) s) arrays) ≡ total g s
+  pub sums : (s : List ℕ) → sum (map (λ a. a .weight * total (a .counts) s) (planOf r c d g .arrays)) ≡ total g s
   -- every array is a controlled rounding of the table itself
-  pub rounded : all (λ a. isRounding r c d g (a .counts)) arrays ≡ true
+  pub rounded : all (λ a. isRounding r c d g (a .counts)) (planOf r c d g .arrays) ≡ true
   -- at most one array more than entries that are not whole, so at most 170
-  pub few : length arrays ≤ notWhole r c d g + 1
-  pub most : length arrays ≤ 170
+  pub few : length (planOf r c d g .arrays) ≤ notWhole r c d g + 1
+  pub most : length (planOf r c d g .arrays) ≤ 170
   -- the stored plan has the length that 01 gives, from 30 to 50,912 bytes
-  pub len : length (planBytes r c d g) ≡ planLength r c (length arrays)
+  pub len : length (planBytes r c d g) ≡ planLength r c (length (planOf r c d g .arrays))
   pub len-low : 30 ≤ length (planBytes r c d g)
   pub len-high : length (planBytes r c d g) ≤ 50912
   -- it opens, to this plan

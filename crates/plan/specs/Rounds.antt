@@ -1,12 +1,13 @@
 -- Rounds, limits and weights: the plan of a table (01, "The plan"; Ernst 1981, Section 3). Assumes nothing.
-use mathlib.Core.Bool.{Bool, cond}
+use mathlib.Core.Path.{_≡_}
+use mathlib.Core.Bool.{cond}
 use mathlib.Core.List.{List, [], _∷_, map, zipWith}
-use Prim.Native.Nat.{ℕ, zero, suc, _+_, _-_, _*_}
+use Prim.Native.Nat.{ℕ, zero, suc, _+_, _-_, _*_, _<_}
 use lib.Dec.{eqb}
 use Rattle.table.specs.Lists.{sum, least}
 use Rattle.table.specs.Table.{total, entryPlaces}
 use Rattle.table.specs.Whole.{down, gap}
-use Rattle.rounding.specs.Rounding.{firstRounding}
+use Rattle.rounding.specs.Rounding.{IsFirst, firstRounding}
 use Rattle.stored.specs.Plan.{Weighted, Plan}
 
 -- "Each entry has a limit: if its count n is the entry rounded down, the limit is (n+1)·W − entry (so W for a whole entry); if it is rounded up,
@@ -36,6 +37,18 @@ roundsFrom (suc fuel) r c (suc v) g =
 -- A weight is at least 1, so D rounds are enough.
 unfoldable pub planOf : ℕ → ℕ → ℕ → List ℕ → Plan
 planOf r c d g = record { rows = r; columns = c; denominator = d; cells = g; arrays = roundsFrom d r c d g }
+
+-- What holds of a round, without a search: some weight w remains, its array is the first of all controlled roundings of the remaining table g over w,
+-- and the array's weight is the smallest limit.
+pub record IsRound (r c w : ℕ) (g : List ℕ) (a : Weighted) : Type 0 where
+  pub remaining : 0 < w
+  pub first : IsFirst r c w g (a .counts)
+  pub weight : a .weight ≡ weightOf r c w g (a .counts)
+
+-- Each array of a list is that of a round. "Then R loses w·N and W loses w. The plan ends when W is 0."
+unfoldable pub AreRounds : ℕ → ℕ → ℕ → List ℕ → List Weighted → Type 0
+AreRounds r c w g [] = w ≡ 0
+AreRounds r c w g (a ∷ l) = IsRound r c w g a × AreRounds r c (w - a .weight) (without (a .weight) (a .counts) g) l
 
 -- how many entries are not whole, totals included
 unfoldable pub notWhole : ℕ → ℕ → ℕ → List ℕ → ℕ

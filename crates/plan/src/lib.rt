@@ -10,7 +10,7 @@ ghost use Rattle.table.specs.Check.{checkOf};
 ghost use Rattle.table.specs.Lists.{tabulate, all};
 ghost use Rattle.table.specs.Shape.{IsTable};
 ghost use Rattle.stored.specs.Plan.{arrayFor};
-ghost use Rattle.plan.specs.Rounds.{roundsFrom, planOf};
+ghost use Rattle.plan.specs.Rounds.{planOf};
 ghost use Rattle.plan.specs.Call.{planBytes, planAnswer, plannedOf, plannedNumber, afterPlan};
 ghost use Rattle.plan.specs.Examples.{examples, planned, drawsOfFirst, bounds, checked, slips};
 ghost use Rattle.plan.specs.Promises.{Promises};
@@ -41,9 +41,9 @@ fn plan_table(
     plan: &mut [u8],
 ) -> Planned
     requires { ⌜ IsTable rows columns denominator (now cells) ⌝ }
-    ensures { λ r. ⌜ (r ≡ plannedOf rows columns denominator (now (cells .entry)) (length (now (plan .entry))))
-        × ((now (plan .exit) ≡ afterPlan r (written (planBytes rows columns denominator (now (cells .entry))) (now (plan .entry))) (now (plan .entry)))
-        × Promises rows columns denominator (now (cells .entry)) (roundsFrom denominator rows columns denominator (now (cells .entry)))) ⌝ }
+    ensures answer { λ r. ⌜ r ≡ plannedOf rows columns denominator (now (cells .entry)) (length (now (plan .entry))) ⌝ }
+    ensures buffer { λ r. ⌜ now (plan .exit) ≡ afterPlan r (written (planBytes rows columns denominator (now (cells .entry))) (now (plan .entry))) (now (plan .entry)) ⌝ }
+    ensures promises { λ _. ⌜ Promises rows columns denominator (now (cells .entry)) ⌝ }
 {
     let mut weights = [0u32; 170];
     let mut counts = [0u16; 24480];
@@ -77,7 +77,7 @@ pub fn plan(rows: u32, columns: u32, denominator: u32, cells: &[u32], plan: &mut
     ensures answer { λ r. ⌜ r ≡ planAnswer rows columns denominator (now (cells .entry)) (length (now (plan .entry))) ⌝ }
     ensures buffer { λ r. ⌜ now (plan .exit) ≡ afterPlan r (written (planBytes rows columns denominator (now (cells .entry))) (now (plan .entry))) (now (plan .entry)) ⌝ }
     ensures promises { λ _. ⌜ ((t : Table) → Checked.Accepted t ≡ checkOf rows columns denominator (now (cells .entry))
-        → Promises rows columns denominator (now (cells .entry)) (planOf rows columns denominator (now (cells .entry)) .arrays)) ⌝ }
+        → Promises rows columns denominator (now (cells .entry))) ⌝ }
 {
     let checked = check(rows, columns, denominator, cells);
     match checked {

@@ -43,7 +43,7 @@ pub record Listed (n : ℕ) (new s : List ℕ) : Type 0 where
 module _ (r c d : ℕ) (g : List ℕ) (p : Planned) (old new : List ℕ)
     (f : (p ≡ planAnswer r c d g (length old))
     × ((new ≡ afterPlan p (written (planBytes r c d g) old) old)
-    × ((t : Table) → table.Accepted t ≡ checkOf r c d g → Promises r c d g (planOf r c d g .arrays))))
+    × ((t : Table) → table.Accepted t ≡ checkOf r c d g → Promises r c d g)))
     (room : 50912 ≤ length old) where
   told : (k : Checked) → checkOf r c d g ≡ k → p ≡ ifAccepted k (Length (length (planBytes r c d g)))
   unfolding planAnswer plannedOf
