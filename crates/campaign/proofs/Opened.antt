@@ -11,7 +11,7 @@ use Rattle.table.specs.Table.{total}
 use Rattle.table.specs.Whole.{down, up, roundsTo}
 use Rattle.table.specs.Check.{cellsWithin}
 use Rattle.table.proofs.Roundings.{rounds-low, rounds-high}
-use Rattle.table.proofs.Lists.{and-left, and-right, length-tabulate, tabulate-all, all-member, tabulate-member}
+use Rattle.table.proofs.Lists.{and-left, and-right, length-tabulate, tabulate-all, all-at-member, tabulate-member}
 use Rattle.stored.specs.Plan.{Weighted, Plan}
 use Rattle.stored.specs.Form.{decode, laidOut}
 use Rattle.stored.specs.Open.{heldTo, held, weighted, consistent, opens}
@@ -73,6 +73,6 @@ module _ (b : List ℕ) (o : opens b ≡ true) where
         cells = cells-many b;
         counts = counts-many b;
         weights = eqb-true _ _ (c .0);
-        entry = λ a m s t. rounded _ _ _ (all-member _ (all-member (held p) (c .1) m) t);
+        entry = λ a m s t. rounded _ _ _ (all-at-member _ _ (all-at-member (held p) _ (c .1) m) t);
         cell = λ i h. eqb-true _ _ (tabulate-all _ (cellCount p) (λ i. i) (c .2) i h);
       }

@@ -1,17 +1,15 @@
 -- One entry through one round: its limit, what is left of it, and Ernst's bounds (3.4). Assumes nothing.
-use mathlib.Core.Path.{_≡_, refl, sym, ap, _∙_}
-use mathlib.Core.Logic.{_⊎_, inl, inr, ⊎-elim}
-use mathlib.Core.Bool.{true, false, cond}
-use Prim.Native.Nat.{ℕ, zero, suc, _+_, _-_, _*_, _/_, _%_, _≤_, _<_}
-use native.Mathlib.Decide.{ℕ-discrete, decLt}
+use mathlib.Core.Path.{_≡_, refl, ap, _∙_}
+use mathlib.Core.Logic.{_⊎_, inl, inr}
+use mathlib.Core.Bool.{true}
+use Prim.Native.Nat.{ℕ, _+_, _-_, _*_, _/_, _%_, _≤_, _<_}
+use native.Mathlib.Decide.{ℕ-discrete}
 use native.Mathlib.Nat.{div-add-mod', mod-lt, add-mul, mul-add, mul-comm, one-mul, mul-one, mul-le-mul-right, mul-mod-left, le-of-mul-le-mul-right, lt-of-mul-lt-mul-right}
 use native.Mathlib.Numerals.{add-one-le}
 use native.Mathlib.Omega.{arith}
-use lib.Arith.{digits-mod}
-use lib.Dec.{eqb}
 use borrow.Author.Tests.{eq-eqb, ne-eqb}
-use Rattle.table.specs.Whole.{down, gap, roundsTo}
-use Rattle.table.proofs.Roundings.{gap-le, gap-whole, gap-part, rounds, rounds-low, rounds-high}
+use Rattle.table.specs.Whole.{gap, roundsTo}
+use Rattle.table.proofs.Roundings.{gap-le, gap-whole, gap-part, rounds-low, rounds-high}
 use Rattle.plan.specs.Rounds.{limitOf}
 
 module _ (w : ℕ) (wp : 0 < w) (e n : ℕ) (h : roundsTo w e n ≡ true) where

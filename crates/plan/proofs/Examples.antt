@@ -1,8 +1,7 @@
 -- The tables of specs/Examples.antt hold, by computation. Assumes nothing.
 use mathlib.Core.Path.{_≡_, refl}
 use mathlib.Core.Bool.{true, not}
-use mathlib.Core.List.{List, [], _∷_, map, zipWith}
-use Prim.Native.Nat.{ℕ}
+use mathlib.Core.List.{[], _∷_, map, zipWith}
 use lib.Dec.{eqb}
 use Rattle.table.specs.Lists.{tabulate, sum, joinTo, least, all}
 use Rattle.table.specs.Table.{total, entryPlaces, lines}

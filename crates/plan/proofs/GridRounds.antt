@@ -1,26 +1,26 @@
 -- One round on the grid is one round of the plan. Assumes nothing.
-use mathlib.Core.Path.{_≡_, refl, sym, ap, ap₂, _∙_}
-use mathlib.Core.Bool.{true, false}
+use mathlib.Core.Path.{_≡_, sym, ap, ap₂, _∙_}
+use mathlib.Core.Bool.{true}
 use mathlib.Core.List.{List, []}
-use Prim.Native.Nat.{ℕ, zero, suc, _+_, _-_, _*_, _/_, _%_, _≤_, _<_}
-use native.Mathlib.Nat.{zero-div, one-mul}
+use Prim.Native.Nat.{ℕ, _+_, _*_, _/_, _%_, _≤_, _<_}
+use native.Mathlib.Nat.{zero-div}
 use native.Mathlib.Omega.{arith}
 use lib.ListN.{length, getD}
 use lib.Seq.{ext-getD}
-use lib.Dec.{leb, eqb}
-use borrow.Author.Tests.{le-leb, leb-true, eq-eqb}
-use Rattle.table.specs.Table.{total, entryPlaces, cellPlaces, rowPlaces, columnPlaces, allPlaces, gridPlaces, gridAt, gridOf}
+use lib.Dec.{leb}
+use borrow.Author.Tests.{le-leb, leb-true}
+use Rattle.table.proofs.Lists.{all-at-member}
+use Rattle.table.specs.Table.{total, entryPlaces, gridPlaces, gridAt, gridOf}
 use Rattle.table.specs.Whole.{roundsTo}
 use Rattle.table.specs.Shape.{Shape}
 use Rattle.table.proofs.Totals.{total-none, grid-at, length-grid}
 use Rattle.table.proofs.EntryTests.{grid-entries, grid-each}
-use Rattle.rounding.specs.Rounding.{isRounding, IsFirst, firstRounding}
+use Rattle.rounding.specs.Rounding.{IsFirst, firstRounding}
 use Rattle.rounding.specs.Lines.{IsGrid, RoundedGrid}
 use Rattle.rounding.proofs.Roundings.{rounding-grid}
 use Rattle.plan.specs.Rounds.{limitOf, weightOf, without}
 use Rattle.plan.specs.Grids.{Rounded, Limits, Smallest, Bears, Lost, RoundDone}
-use Rattle.plan.proofs.Leasts.{member-all}
-use Rattle.plan.proofs.OneRound.{entry-rounds, attains, weight-most, weight-high, rest, rest-total}
+use Rattle.plan.proofs.OneRound.{attains, weight-most, weight-high, rest, rest-total}
 use Rattle.plan.proofs.GridMembers.{cell-in, row-in, column-in, grand-in}
 
 module _ (r c : ℕ) (g : List ℕ) (k : ℕ) (h : k < 169) where
@@ -76,7 +76,7 @@ module _ {w : ℕ} (wp : 0 < w) {e n : List ℕ} (o : RoundedGrid w e n) (r c : 
     weight-is =
         let t = attains s w wp _ (first .rounding) in
         let up : x ≤ weightOf r c w g (firstRounding r c w g) = rw (t .is)
-        (leb-true x _ (member-all (λ y. leb x (limitOf w (total g y) (total (firstRounding r c w g) y))) (entryPlaces r c)
+        (leb-true x _ (all-at-member (λ y. leb x (limitOf w (total g y) (total (firstRounding r c w g) y))) (entryPlaces r c)
         (grid-entries s (λ y. leb x (limitOf w (total g y) (total (firstRounding r c w g) y))) test) (t .member))) in
         omega (arith, low (sm .place) (sm .inside), sm .is, lm .is (sm .place) (sm .inside))
 

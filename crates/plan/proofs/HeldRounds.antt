@@ -1,8 +1,8 @@
 -- What the loop over the rounds keeps. Assumes nothing.
-use mathlib.Core.Path.{_≡_, refl, sym, ap, ap₂, subst, _∙_}
+use mathlib.Core.Path.{_≡_, sym, ap, ap₂, subst, _∙_}
 use mathlib.Core.Bool.{true}
-use mathlib.Core.List.{List, [], _∷_, _++_, map}
-use Prim.Native.Nat.{ℕ, zero, suc, _+_, _-_, _*_, _/_, _%_, _≤_, _<_}
+use mathlib.Core.List.{List, [], _∷_, _++_}
+use Prim.Native.Nat.{ℕ, _+_, _-_, _*_, _/_, _%_, _≤_, _<_}
 use native.Mathlib.Decide.{decLt}
 use native.Mathlib.Nat.{mul-le-mul, suc-mul}
 use native.Mathlib.Omega.{arith}
@@ -11,8 +11,9 @@ use lib.ListN.{length, getD, set, length-set, length-append, List·getD-append, 
 use lib.Seq.{getD-append-seam}
 use mir.Val.{Fits}
 use mir.Syntax.{w64}
-use Rattle.table.specs.Lists.{tabulate, sum}
-use Rattle.table.specs.Table.{total, cellPlaces, rowPlaces, columnPlaces, lines, entryPlaces, gridPlaces, gridAt, gridOf}
+use Rattle.table.proofs.Sums.{list-length}
+use Rattle.table.specs.Lists.{tabulate}
+use Rattle.table.specs.Table.{total, cellPlaces, rowPlaces, columnPlaces, lines, entryPlaces, gridPlaces, gridAt, gridOf, maxDenominator, maxEntry}
 use Rattle.table.specs.Whole.{gap}
 use Rattle.table.specs.Shape.{Shape, IsTable}
 use Rattle.table.specs.Fill.{Filled}
@@ -25,10 +26,9 @@ use Rattle.rounding.specs.Lines.{cellIn, IsGrid, Ready}
 use Rattle.rounding.proofs.Roundings.{shape-of, rounding-length}
 use Rattle.rounding.proofs.Calls.{cell-of-grid, array-small}
 use Rattle.stored.specs.Plan.{Weighted, arrayAt}
-use Rattle.plan.specs.Rounds.{weightOf, without, notWhole}
+use Rattle.plan.specs.Rounds.{without, notWhole}
 use Rattle.plan.specs.Progress.{Progress}
-use Rattle.plan.specs.Grids.{RoundDone, Held, AllHeld}
-use Rattle.plan.proofs.Leasts.{sum-map-length}
+use Rattle.plan.specs.Grids.{RoundDone, Held}
 use Rattle.plan.proofs.Progressing.{progress-start, progress-step, array-rounds, nextWeight, nextWeighted, nextArray, low-weight, high-weight}
 use Rattle.plan.proofs.GridRounds.{entry-of}
 
@@ -58,17 +58,17 @@ entries-length r c =
 pub few-not-whole : {r c : ℕ} → r ≤ 12 → c ≤ 12 → (w : ℕ) (g : List ℕ) → notWhole r c w g ≤ 169
 unfolding notWhole
 few-not-whole {r} {c} hr hc w g =
-    omega (arith, sum-map-length (λ s. gap w (total g s)) (entryPlaces r c) (λ s. gap-le w (total g s)), entries-length r c, mul-le-mul hr hc)
+    omega (arith, list-length (λ s. gap w (total g s)) (entryPlaces r c) (λ s. gap-le w (total g s)), entries-length r c, mul-le-mul hr hc)
 
 module _ {r c d : ℕ} {g : List ℕ} (t : IsTable r c d g) {w k : ℕ} {e weights counts : List ℕ} (o : Held r c d g w k e weights counts) where
-  pub weight-small : w ≤ 65535
+  pub weight-small : w ≤ maxDenominator
   weight-small = omega (arith, o .progress .weights, t .denominator)
 
-  entry-small : (i : ℕ) → getD e i 0 ≤ 9437040000
+  entry-small : (i : ℕ) → getD e i 0 ≤ maxEntry
   unfolding gridAt
   entry-small i = go (decLt i 169)
     where
-      go : Dec (i < 169) → getD e i 0 ≤ 9437040000
+      go : Dec (i < 169) → getD e i 0 ≤ maxEntry
       go (yes h) =
           let a : getD e i 0 ≡ total (o .rest) (gridPlaces r c (i / 13) (i % 13)) = ap (λ (l : List ℕ). getD l i 0) (o .grid) ∙ entry-of r c (o .rest) i h in
           let b : getD (gridOf r c g) i 0 ≡ total g (gridPlaces r c (i / 13) (i % 13)) = entry-of r c g i h in

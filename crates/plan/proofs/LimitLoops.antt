@@ -1,8 +1,8 @@
 -- What the functions on limits keep. Assumes nothing.
-use mathlib.Core.Path.{_≡_, refl, sym, ap, _∙_}
-use mathlib.Core.Bool.{true, false}
+use mathlib.Core.Path.{_≡_, refl, ap, _∙_}
+use mathlib.Core.Bool.{true}
 use mathlib.Core.List.{List}
-use Prim.Native.Nat.{ℕ, zero, suc, _+_, _-_, _*_, _/_, _%_, _≤_, _<_, min}
+use Prim.Native.Nat.{ℕ, _+_, _-_, _*_, _/_, _≤_, _<_, min}
 use native.Mathlib.Decide.{decLt}
 use native.Mathlib.Nat.{div-add-mod', mod-lt, add-mul, one-mul}
 use native.Mathlib.Omega.{arith}
@@ -11,6 +11,7 @@ use lib.ListN.{length, getD, set, length-set}
 use lib.Seq.{getD-set-other}
 use mir.Val.{Fits}
 use mir.Syntax.{w64}
+use Rattle.table.specs.Table.{maxDenominator, maxEntry}
 use Rattle.table.specs.Whole.{roundsTo}
 use Rattle.table.proofs.Lists.{each-more}
 use Rattle.plan.specs.Rounds.{limitOf}
@@ -18,7 +19,7 @@ use Rattle.plan.specs.Grids.{Rounded, Limits, Smallest, Bears, Lost}
 use Rattle.plan.proofs.Entries.{Side, side, below, above}
 
 -- the limit without division
-module _ (w e n : ℕ) (p : ((0 < w) × (w ≤ 65535)) × ((e ≤ 9437040000) × (roundsTo w e n ≡ true))) where
+module _ (w e n : ℕ) (p : ((0 < w) × (w ≤ maxDenominator)) × ((e ≤ maxEntry) × (roundsTo w e n ≡ true))) where
   wp : 0 < w
   wp = p .0 .0
 
@@ -67,7 +68,7 @@ module _ {w : ℕ} {e n l : List ℕ} {k : ℕ} (t : LimitsTo w e n l k) where
   limits-all h = record { len = t .len; is = λ i p. t .is i (omega arith) }
 
 pub limit-ready : {w : ℕ} {e n : List ℕ} {k : ℕ} → Rounded w e n → k < 169
-    → ((0 < w) × (w ≤ 65535)) × ((getD e k 0 ≤ 9437040000) × (roundsTo w (getD e k 0) (getD n k 0) ≡ true))
+    → ((0 < w) × (w ≤ maxDenominator)) × ((getD e k 0 ≤ maxEntry) × (roundsTo w (getD e k 0) (getD n k 0) ≡ true))
 limit-ready {w} {e} {n} {k} t h = ((t .some, t .small), (t .entry-small k, t .rounds k h))
 
 -- the smallest of the first k

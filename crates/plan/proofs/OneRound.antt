@@ -1,24 +1,25 @@
 -- One round of the plan: from a remaining table over w to the next over the rest. Assumes nothing.
-use mathlib.Core.Path.{_≡_, refl, sym, ap, _∙_}
-use mathlib.Core.Bool.{Bool, true, false, _&&_}
-use mathlib.Core.List.{List, [], _∷_, _++_, map, List·Memᴰ as Member}
-use Prim.Native.Nat.{ℕ, zero, suc, _+_, _-_, _*_, _/_, _%_, _≤_, _<_}
+use mathlib.Core.Path.{_≡_, sym, ap, _∙_}
+use mathlib.Core.Bool.{true}
+use mathlib.Core.List.{List, List·Memᴰ as Member}
+use Prim.Native.Nat.{ℕ, _+_, _-_, _*_, _/_, _≤_, _<_}
 use native.Mathlib.Decide.{decLt}
 use native.Mathlib.Nat.{mul-zero}
 use native.Mathlib.Omega.{arith}
 use lib.ListN.{length, getD, List·getD-eq-default}
 use lib.Dec.{eqb}
-use Rattle.table.specs.Lists.{tabulate, sum, sumTo, least}
-use Rattle.table.specs.Table.{total, cellPlaces, allPlaces, lines, entryPlaces}
-use Rattle.table.specs.Whole.{down, gap, roundsTo}
+use Rattle.table.proofs.Sums.{list-lt}
+use Rattle.table.specs.Lists.{sumTo}
+use Rattle.table.specs.Table.{total, cellPlaces, entryPlaces}
+use Rattle.table.specs.Whole.{gap, roundsTo}
 use Rattle.table.specs.Shape.{Shape}
-use Rattle.table.proofs.Lists.{and-right}
+use Rattle.table.proofs.Lists.{and-right, all-at-member}
 use Rattle.table.proofs.Totals.{total-sum}
 use Rattle.rounding.specs.Rounding.{isRounding}
 use Rattle.rounding.proofs.Roundings.{shape-of, rounding-length}
 use Rattle.plan.specs.Rounds.{limitOf, weightOf, without, notWhole}
 use Rattle.plan.proofs.Entries.{limit-low, limit-high, Left, left, gap-falls, gap-drops, count-low, count-high, next-low, next-high}
-use Rattle.plan.proofs.Leasts.{member-all, least-le, Attained, attained-in, sum-map-le, sum-map-lt}
+use Rattle.plan.proofs.Leasts.{least-le, Attained, attained-in}
 use Rattle.plan.proofs.GridMembers.{cell-in, grand-in}
 use Rattle.plan.proofs.Losses.{without-length, without-total}
 
@@ -29,7 +30,7 @@ total-cell g i = total-sum g 1 _ ∙ (let e : i + 0 * 1 ≡ i = omega arith in r
 module _ {r c : ℕ} {g : List ℕ} (s : Shape r c g) (w : ℕ) (wp : 0 < w) (n : List ℕ) (h : isRounding r c w g n ≡ true) where
   pub entry-rounds : {x : List ℕ} → Member x (entryPlaces r c) → roundsTo w (total g x) (total n x) ≡ true
   unfolding isRounding
-  entry-rounds = member-all (λ x. roundsTo w (total g x) (total n x)) (entryPlaces r c) (and-right (eqb (length n) (r * c)) _ h)
+  entry-rounds = all-at-member (λ x. roundsTo w (total g x) (total n x)) (entryPlaces r c) (and-right (eqb (length n) (r * c)) _ h)
 
   -- the weight
   abbrev y : ℕ
@@ -106,7 +107,7 @@ module _ {r c : ℕ} {g : List ℕ} (s : Shape r c g) (w : ℕ) (wp : 0 < w) (n 
   -- fewer entries are not whole, unless this round is the last
   pub fewer : 0 < v → notWhole r c v rest < notWhole r c w g
   unfolding notWhole
-  fewer vp = sum-map-lt (λ x. gap v (total rest x)) (λ x. gap w (total g x)) (entryPlaces r c)
+  fewer vp = list-lt (λ x. gap v (total rest x)) (λ x. gap w (total g x)) (entryPlaces r c)
       (λ x m. gap-falls w wp _ _ (entry-rounds m) vp (left-of m) (rest-entry m))
       (attains .at) (attains .member)
       (gap-drops w wp _ _ (entry-rounds (attains .member)) vp (left-of (attains .member)) (rest-entry (attains .member)) (attains .is) split)

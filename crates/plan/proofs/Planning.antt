@@ -1,34 +1,34 @@
 -- When no weight is left: the plan is what was gathered, and what it promises. Assumes nothing.
 use mathlib.Core.Path.{_≡_, refl, sym, ap, ap₂, _∙_}
-use mathlib.Core.Bool.{Bool, true, false, _&&_}
-use mathlib.Core.List.{List, [], _∷_, _++_, map, List·Memᴰ as Member}
-use Prim.Native.Nat.{ℕ, zero, suc, _+_, _-_, _*_, _/_, _%_, _^_, _≤_, _<_}
+use mathlib.Core.Bool.{true}
+use mathlib.Core.List.{List, [], _∷_, map}
+use Prim.Native.Nat.{ℕ, zero, suc, _+_, _*_, _/_, _%_, _^_, _≤_, _<_}
 use native.Mathlib.Decide.{decLt}
-use native.Mathlib.Nat.{mul-le-mul, mul-zero, mod-lt, div-lt-iff-lt-mul, div-add-mod'}
+use native.Mathlib.Nat.{mul-zero, mod-lt, div-lt-iff-lt-mul, div-add-mod'}
 use native.Mathlib.Omega.{arith}
 use lib.ListN.{length, getD, List·getD-eq-default}
 use lib.Dec.{leb, eqb}
 use borrow.Author.Tests.{le-leb, eq-eqb}
+use Rattle.table.proofs.Sums.{list-ext}
 use Rattle.table.specs.Lists.{tabulate, sum, all}
 use Rattle.table.specs.Table.{total, cellPlaces, allPlaces, lines, entryPlaces, gridAt}
-use Rattle.table.specs.Whole.{down, up, roundsTo}
-use Rattle.table.specs.Shape.{Shape, IsTable}
-use Rattle.table.specs.Check.{cellsWithin}
+use Rattle.table.specs.Whole.{up, roundsTo}
+use Rattle.table.specs.Shape.{IsTable}
 use Rattle.table.proofs.Lists.{and-left, and-right, and-both, all-intro, all-elim, all-append, all-tabulate}
 use Rattle.table.proofs.GridSums.{cell-at}
 use Rattle.rounding.specs.Rounding.{isRounding}
 use Rattle.rounding.proofs.Roundings.{shape-of, rounding-length}
-use Rattle.stored.specs.Plan.{Weighted, Plan, arrayAt}
-use Rattle.stored.specs.Form.{planLength, encode, decode, laidOut}
+use Rattle.stored.specs.Plan.{Weighted, arrayAt}
+use Rattle.stored.specs.Form.{planLength, decode}
 use Rattle.stored.specs.Open.{held, weighted, consistent, opens}
-use Rattle.stored.specs.Write.{FitArray, WellShaped, heldArray, heldPlan, Bounded}
+use Rattle.stored.specs.Write.{WellShaped, heldArray, heldPlan, Bounded}
 use Rattle.stored.proofs.Decodings.{tabulate-getD, decode-encode, encode-laid-out}
 use Rattle.stored.proofs.Encodings.{encode-length}
 use Rattle.stored.proofs.Lengths.{plan-least, plan-most}
-use Rattle.plan.specs.Rounds.{roundsFrom, planOf, notWhole}
+use Rattle.plan.specs.Rounds.{roundsFrom, planOf}
 use Rattle.plan.specs.Call.{planBytes}
 use Rattle.plan.specs.Progress.{Progress}
-use Rattle.plan.specs.Grids.{Held, AllHeld}
+use Rattle.plan.specs.Grids.{AllHeld}
 use Rattle.plan.specs.Promises.{Promises}
 use Rattle.plan.proofs.GridMembers.{cell-in}
 use Rattle.plan.proofs.OneRound.{total-cell}
@@ -43,20 +43,15 @@ at-most-sum f z [] i = omega arith
 at-most-sum f z (a ∷ l) zero = omega arith
 at-most-sum f z (a ∷ l) (suc i) = omega (arith, at-most-sum f z l i)
 
-sum-map-same : (f h : Weighted → ℕ) → ((a : Weighted) → f a ≡ h a) → (l : List Weighted) → sum (map f l) ≡ sum (map h l)
-unfolding sum
-sum-map-same f h e [] = refl
-sum-map-same f h e (a ∷ l) = omega (arith, e a, sum-map-same f h e l)
-
 sum-none : sum (map (λ (a : Weighted). a .weight) []) ≡ 0
 unfolding sum
 sum-none = refl
 
 -- a table with nothing in its cells has nothing anywhere
-pub total-zero : (g : List ℕ) → ((i : ℕ) → getD g i 0 ≡ 0) → (s : List ℕ) → total g s ≡ 0
+pub total-of-zeros : (g : List ℕ) → ((i : ℕ) → getD g i 0 ≡ 0) → (s : List ℕ) → total g s ≡ 0
 unfolding total sum
-total-zero g h [] = refl
-total-zero g h (i ∷ s) = omega (arith, h i, total-zero g h s)
+total-of-zeros g h [] = refl
+total-of-zeros g h (i ∷ s) = omega (arith, h i, total-of-zeros g h s)
 
 module _ {r c d : ℕ} {g : List ℕ} (t : IsTable r c d g) {k : ℕ} {weights counts : List ℕ} (a : AllHeld r c d g k weights counts) where
   p : Progress r c d g 0 k (a .held .rest) (a .held .done)
@@ -77,7 +72,7 @@ module _ {r c d : ℕ} {g : List ℕ} (t : IsTable r c d g) {k : ℕ} {weights c
       go (no h) = List·getD-eq-default (a .held .rest) 0 {n = i} (omega (arith, p .shape .cells))
 
   all-sums : (s : List ℕ) → sum (map (λ x. x .weight * total (x .counts) s) (roundsFrom d r c d g)) ≡ total g s
-  all-sums s = rw arrays-are (omega (arith, p .sums s, total-zero (a .held .rest) left-zero s))
+  all-sums s = rw arrays-are (omega (arith, p .sums s, total-of-zeros (a .held .rest) left-zero s))
 
   all-weights : sum (map (λ x. x .weight) (roundsFrom d r c d g)) ≡ d
   all-weights = rw arrays-are (omega (arith, p .weights))
@@ -169,7 +164,7 @@ module _ {r c d : ℕ} {g : List ℕ} (t : IsTable r c d g) {k : ℕ} {weights c
 
   cells-met : (i : ℕ) → weighted (roundsFrom d r c d g) i ≡ getD g i 0
   cells-met i =
-      sum-map-same _ _ (λ x. ap (λ (n : ℕ). x .weight * n) (sym (total-cell (x .counts) i))) (roundsFrom d r c d g)
+      list-ext _ _ (roundsFrom d r c d g) (λ x m. ap (λ (n : ℕ). x .weight * n) (sym (total-cell (x .counts) i)))
       ∙ all-sums (cellPlaces i)
       ∙ total-cell g i
 

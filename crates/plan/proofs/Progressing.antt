@@ -1,26 +1,26 @@
 -- How planning proceeds: its start, one more round, its end. Assumes nothing.
 use mathlib.Core.Path.{_≡_, refl, sym, ap, subst, _∙_}
-use mathlib.Core.Bool.{Bool, true, false, _&&_}
-use mathlib.Core.List.{List, [], _∷_, _++_, map, append-nil, append-assoc, map-append, List·Memᴰ as Member}
+use mathlib.Core.Bool.{Bool, true}
+use mathlib.Core.List.{List, [], _∷_, _++_, map, append-nil, append-assoc}
 use Prim.Native.Nat.{ℕ, zero, suc, _+_, _-_, _*_, _/_, _%_, _≤_, _<_}
 use native.Mathlib.Decide.{ℕ-discrete}
 use native.Mathlib.Nat.{div-add-mod', mod-lt, add-mul, one-mul}
 use native.Mathlib.Omega.{arith}
 use lib.ListN.{length, length-append}
-use lib.Dec.{leb, eqb}
+use lib.Dec.{eqb}
 use borrow.Author.Tests.{le-leb, eq-eqb}
+use Rattle.table.proofs.Sums.{list-append}
 use Rattle.table.specs.Lists.{sum, all}
 use Rattle.table.specs.Table.{total, entryPlaces}
 use Rattle.table.specs.Whole.{down, up, gap, roundsTo}
-use Rattle.table.specs.Shape.{Shape, IsTable}
-use Rattle.table.proofs.Lists.{all-append, and-both}
-use Rattle.table.proofs.Roundings.{gap-le, gap-whole, gap-part, rounds}
+use Rattle.table.specs.Shape.{IsTable}
+use Rattle.table.proofs.Lists.{all-append, and-both, all-of-members}
+use Rattle.table.proofs.Roundings.{gap-part, rounds}
 use Rattle.rounding.specs.Rounding.{isRounding, IsFirst, firstRounding}
 use Rattle.rounding.proofs.Roundings.{rounding-length}
 use Rattle.stored.specs.Plan.{Weighted}
-use Rattle.plan.specs.Rounds.{weightOf, without, roundsFrom, IsRound, AreRounds, notWhole}
+use Rattle.plan.specs.Rounds.{weightOf, without, roundsFrom, IsRound, AreRounds}
 use Rattle.plan.specs.Progress.{Progress}
-use Rattle.plan.proofs.Leasts.{all-member, sum-append}
 use Rattle.plan.proofs.OneRound.{weight-low, weight-high, rest, rest-shape, rest-total, rest-low, rest-high, array-low, array-high, fewer}
 
 -- an entry lies between its roundings
@@ -59,7 +59,7 @@ progress-start {r} {c} {d} {g} t = record {
 module _ (a : Weighted) (l : List Weighted) where
   sum-one-more : (f : Weighted → ℕ) → sum (map f (l ++ (a ∷ []))) ≡ sum (map f l) + f a
   unfolding sum
-  sum-one-more f = ap sum (map-append f l (a ∷ [])) ∙ sum-append (map f l) (f a ∷ []) ∙ omega arith
+  sum-one-more f = list-append f l (a ∷ []) ∙ omega arith
 
   all-one-more : (f : Weighted → Bool) → all f l ≡ true → f a ≡ true → all f (l ++ (a ∷ [])) ≡ true
   unfolding all
@@ -94,7 +94,7 @@ module _ {r c d : ℕ} {g : List ℕ} {w k : ℕ} {left : List ℕ} {done : List
 
   pub array-rounds : isRounding r c d g nextArray ≡ true
   unfolding isRounding nextArray
-  array-rounds = and-both eq-length (all-member (λ s. roundsTo d (total g s) (total nextArray s)) (entryPlaces r c)
+  array-rounds = and-both eq-length (all-of-members (λ s. roundsTo d (total g s) (total nextArray s)) (entryPlaces r c)
       (λ s m. rounds d (total g s) (total nextArray s)
       (array-low (p .shape) w wp nextArray (f .rounding) m (down d (total g s)) (up d (total g s)) (p .low s m) (p .high s m))
       (array-high (p .shape) w wp nextArray (f .rounding) m (down d (total g s)) (up d (total g s)) (p .low s m) (p .high s m))))

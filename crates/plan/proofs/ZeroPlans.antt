@@ -1,26 +1,24 @@
 -- The plan of a table with all cells 0, of every size and denominator. Assumes nothing.
-use mathlib.Core.Path.{_≡_, refl, sym, ap, _∙_}
+use mathlib.Core.Path.{_≡_, refl, ap, _∙_}
 use mathlib.Core.Logic.{inl, inr}
-use mathlib.Core.Bool.{true}
 use mathlib.Core.List.{List, [], _∷_}
-use Prim.Native.Nat.{ℕ, zero, suc, _+_, _-_, _*_, _≤_, _<_}
+use Prim.Native.Nat.{ℕ, zero, suc, _-_, _*_, _≤_}
 use native.Mathlib.Nat.{div-le-self, zero-div}
 use native.Mathlib.Omega.{arith}
-use lib.ListN.{length, getD, replicate, length-replicate}
+use lib.ListN.{getD, replicate, length-replicate}
 use borrow.Author.Tests.{eq-eqb}
 use Rattle.table.specs.Table.{total, entryPlaces}
 use Rattle.table.specs.Whole.{roundsTo}
 use Rattle.table.specs.Shape.{Shape}
-use Rattle.table.proofs.Lists.{and-both}
+use Rattle.table.proofs.Lists.{and-both, all-of-members}
 use Rattle.table.proofs.Roundings.{rounds}
 use Rattle.rounding.specs.Order.{Before}
 use Rattle.rounding.specs.Rounding.{isRounding, IsFirst, firstRounding}
 use Rattle.rounding.proofs.Roundings.{first-is}
 use Rattle.stored.specs.Plan.{Weighted}
 use Rattle.plan.specs.Rounds.{limitOf, weightOf, without, roundsFrom, planOf}
-use Rattle.plan.proofs.Leasts.{all-member}
 use Rattle.plan.proofs.OneRound.{attains}
-use Rattle.plan.proofs.Planning.{total-zero}
+use Rattle.plan.proofs.Planning.{total-of-zeros}
 use Rattle.plan.proofs.Progressing.{no-more}
 
 zero-at : (n i : ℕ) → _≡_ {A = ℕ} (getD (replicate n 0) i 0) 0
@@ -61,13 +59,13 @@ module _ (r c d : ℕ) (hr : 1 ≤ r) (kr : r ≤ 12) (hc : 1 ≤ c) (kc : c ≤
 
   nothing : (s : List ℕ) → total zeros s ≡ 0
   unfolding zeros
-  nothing = total-zero (replicate (r * c) 0) (zero-at (r * c))
+  nothing = total-of-zeros (replicate (r * c) 0) (zero-at (r * c))
 
   first : IsFirst r c d zeros zeros
   unfolding isRounding zeros
   first = record {
     rounding = and-both (eq-eqb _ _ (length-replicate {A = ℕ} (r * c) 0))
-        (all-member (λ s. roundsTo d (total zeros s) (total zeros s)) (entryPlaces r c)
+        (all-of-members (λ s. roundsTo d (total zeros s) (total zeros s)) (entryPlaces r c)
         (λ s m. rw (nothing s) (rounds d 0 0 (div-le-self 0 d) (omega arith))));
     first = λ k h b. none-before (r * c) k b;
   }

@@ -7,7 +7,7 @@ use Rattle.table.specs.Lists.{tabulate, least}
 use Rattle.table.specs.Table.{total, cellPlaces}
 use Rattle.table.specs.Check.{checkedNumber, checkOf}
 use Rattle.rounding.specs.Rounding.{isRounding}
-use Rattle.stored.specs.Plan.{Weighted, Plan}
+use Rattle.stored.specs.Plan.{Plan}
 use Rattle.stored.specs.Form.{encode}
 use Rattle.stored.specs.Open.{openAnswer, openedNumber}
 use Rattle.plan.specs.Rounds.{limitOf, weightOf, planOf}

@@ -4,10 +4,9 @@ use mathlib.Core.Bool.{true}
 use mathlib.Core.List.{List}
 use Prim.Native.Nat.{ℕ, _+_, _-_, _*_, _≤_, _<_}
 use lib.ListN.{length, getD}
-use Rattle.table.specs.Table.{gridOf}
+use Rattle.table.specs.Table.{gridOf, maxDenominator, maxEntry}
 use Rattle.table.specs.Whole.{roundsTo}
 use Rattle.table.specs.Shape.{Shape}
-use Rattle.table.specs.Fill.{Filled}
 use Rattle.rounding.specs.Rounding.{IsFirst, firstRounding}
 use Rattle.stored.specs.Plan.{Weighted, arrayAt}
 use Rattle.plan.specs.Rounds.{limitOf, weightOf, without}
@@ -16,8 +15,8 @@ use Rattle.plan.specs.Progress.{Progress}
 -- counts that round the entries over w, with numbers that are small: 144 · 1000 · 65,535 is the largest entry
 pub record Rounded (w : ℕ) (e n : List ℕ) : Type 0 where
   pub some : 0 < w
-  pub small : w ≤ 65535
-  pub entry-small : (k : ℕ) → getD e k 0 ≤ 9437040000
+  pub small : w ≤ maxDenominator
+  pub entry-small : (k : ℕ) → getD e k 0 ≤ maxEntry
   pub rounds : (k : ℕ) → k < 169 → roundsTo w (getD e k 0) (getD n k 0) ≡ true
 
 pub record Limits (w : ℕ) (e n l : List ℕ) : Type 0 where
@@ -34,7 +33,7 @@ pub record Smallest (l : List ℕ) (x : ℕ) : Type 0 where
 -- each entry bears x times its count
 pub record Bears (x : ℕ) (e n : List ℕ) : Type 0 where
   pub len : length e ≡ 169
-  pub small : (k : ℕ) → getD e k 0 ≤ 9437040000
+  pub small : (k : ℕ) → getD e k 0 ≤ maxEntry
   pub enough : (k : ℕ) → k < 169 → x * getD n k 0 ≤ getD e k 0
 
 pub record Lost (x : ℕ) (e n e' : List ℕ) : Type 0 where

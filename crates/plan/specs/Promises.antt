@@ -6,7 +6,7 @@ use Prim.Native.Nat.{ℕ, _+_, _*_, _≤_}
 use lib.ListN.{length}
 use lib.Dec.{leb}
 use Rattle.table.specs.Lists.{sum, all}
-use Rattle.table.specs.Table.{total}
+use Rattle.table.specs.Table.{total, maxArrays}
 use Rattle.rounding.specs.Rounding.{isRounding}
 use Rattle.stored.specs.Form.{planLength, decode}
 use Rattle.stored.specs.Open.{opens}
@@ -25,7 +25,7 @@ pub record Promises (r c d : ℕ) (g : List ℕ) : Type 0 where
   pub rounded : all (λ a. isRounding r c d g (a .counts)) (planOf r c d g .arrays) ≡ true
   -- at most one array more than entries that are not whole, so at most 170
   pub few : length (planOf r c d g .arrays) ≤ notWhole r c d g + 1
-  pub most : length (planOf r c d g .arrays) ≤ 170
+  pub most : length (planOf r c d g .arrays) ≤ maxArrays
   -- the stored plan has the length that 01 gives, from 30 to 50,912 bytes
   pub len : length (planBytes r c d g) ≡ planLength r c (length (planOf r c d g .arrays))
   pub len-low : 30 ≤ length (planBytes r c d g)

@@ -1,7 +1,7 @@
 // The plan of a table: Ernst's rounds, and the plan in stored form 1.
 ghost use mathlib.Core.Path.{_≡_};
 ghost use mathlib.Core.Bool.{true, not};
-ghost use mathlib.Core.List.{List, [], _∷_, map};
+ghost use mathlib.Core.List.{[], _∷_, map};
 ghost use Prim.Native.Nat.{ℕ, _*_, _≤_};
 ghost use lib.ListN.{length, replicate};
 ghost use lib.Dec.{eqb};

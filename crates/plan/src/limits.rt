@@ -1,15 +1,16 @@
 // The limits of a round, and its weight.
 ghost use mathlib.Core.Path.{_≡_};
 ghost use mathlib.Core.Bool.{true};
-ghost use Prim.Native.Nat.{ℕ, _≤_, _<_, min};
+ghost use Prim.Native.Nat.{_≤_, _<_, min};
 ghost use lib.ListN.{length};
+ghost use Rattle.table.specs.Table.{maxDenominator, maxEntry};
 ghost use Rattle.table.specs.Whole.{roundsTo};
 ghost use Rattle.plan.specs.Rounds.{limitOf};
 ghost use Rattle.plan.specs.Grids.{Rounded, Limits, Smallest, Bears, Lost};
 
 // The limit of an entry e over w whose count is n: how much weight it bears until it leaves its bounds.
 pub fn limit(w: u64, e: u64, n: u64) -> u64
-    requires { ⌜ ((0 < w) × (w ≤ 65535)) × ((e ≤ 9437040000) × (roundsTo w e n ≡ true)) ⌝ }
+    requires { ⌜ ((0 < w) × (w ≤ maxDenominator)) × ((e ≤ maxEntry) × (roundsTo w e n ≡ true)) ⌝ }
     ensures { λ r. ⌜ r ≡ limitOf w e n ⌝ }
 {
     let whole = n * w;

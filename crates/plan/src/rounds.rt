@@ -1,6 +1,6 @@
 // All rounds of the plan of an accepted table.
 ghost use mathlib.Core.Path.{_≡_};
-ghost use Prim.Native.Nat.{ℕ, _≤_};
+ghost use Prim.Native.Nat.{_≤_};
 ghost use lib.ListN.{length};
 ghost use Rattle.table.specs.Shape.{IsTable};
 ghost use Rattle.plan.specs.Grids.{AllHeld};

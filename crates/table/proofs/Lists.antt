@@ -93,11 +93,16 @@ each-more P l k v h f new =
     (subst (P k) (sym (getD-set-same l k v 0 h)) new)
 
 module _ {ℓ} {A : Type ℓ} where
-  -- an element of a list that passes a test everywhere, and of a list made of a function
-  pub all-member : (f : A → Bool) {x : A} {l : List A} → all f l ≡ true → Member x l → f x ≡ true
+  -- every element passes a test exactly if each member does; a member of a list made of a function
+  pub all-at-member : (t : A → Bool) (l : List A) → all t l ≡ true → {x : A} → Member x l → t x ≡ true
   unfolding all
-  all-member f {x} {l = y ∷ l} h (here e) = ap f e ∙ and-left (f y) (all f l) h
-  all-member f {x} {l = y ∷ l} h (there m) = all-member f (and-right (f y) (all f l) h) m
+  all-at-member t [] h m = absurd (member-none m)
+  all-at-member t (y ∷ l) h m = ⊎-elim (λ e. ap t e ∙ and-left (t y) (all t l) h) (λ k. all-at-member t l (and-right (t y) (all t l) h) k) (member-cases m)
+
+  pub all-of-members : (t : A → Bool) (l : List A) → ((x : A) → Member x l → t x ≡ true) → all t l ≡ true
+  unfolding all
+  all-of-members t [] h = refl
+  all-of-members t (y ∷ l) h = rw (h y (here refl)) (all-of-members t l (λ x m. h x (there m)))
 
   pub tabulate-member {κ} : (P : A → Type κ) {x : A} (n : ℕ) (f : ℕ → A) → Member x (tabulate n f) → ((i : ℕ) → i < n → P (f i)) → P x
   unfolding tabulate

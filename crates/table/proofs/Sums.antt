@@ -2,9 +2,11 @@
 use mathlib.Core.Path.{_≡_, refl, sym, ap, _∙_}
 use mathlib.Core.Logic.{⊎-elim}
 use mathlib.Core.List.{List, [], _∷_, _++_, map, List·Memᴰ as Member, List·Memᴰ·head as here, List·Memᴰ·tail as there}
+use mathlib.Core.List.{List·Memᴰ·not-nil as member-none, List·Memᴰ·cases-cons as member-cases}
 use Prim.Native.Nat.{ℕ, zero, suc, _+_, _-_, _*_, _≤_, _<_}
 use native.Mathlib.Nat.{le-of-suc-le-suc, not-suc-le-zero, eq-or-lt-of-le, zero-mul, mul-zero, mul-add, suc-mul}
 use native.Mathlib.Omega.{arith}
+use lib.ListN.{length}
 use Rattle.table.specs.Lists.{tabulate, sum, sumTo}
 
 pub sum-ext : (n : ℕ) (f g : ℕ → ℕ) → ((j : ℕ) → j < n → f j ≡ g j) → sumTo n f ≡ sumTo n g
@@ -136,3 +138,21 @@ module _ {ℓ} {A : Type ℓ} where
   unfolding sum
   list-zero [] = refl
   list-zero (x ∷ l) = omega (arith, list-zero l)
+
+  pub list-le : (f g : A → ℕ) (l : List A) → ((x : A) → Member x l → f x ≤ g x) → sum (map f l) ≤ sum (map g l)
+  unfolding sum
+  list-le f g [] h = omega arith
+  list-le f g (y ∷ l) h = omega (arith, h y (here refl), list-le f g l (λ x m. h x (there m)))
+
+  pub list-lt : (f g : A → ℕ) (l : List A) → ((x : A) → Member x l → f x ≤ g x) → (x : A) → Member x l → f x < g x → sum (map f l) < sum (map g l)
+  unfolding sum
+  list-lt f g [] h x m s = absurd (member-none m)
+  list-lt f g (y ∷ l) h x m s = ⊎-elim
+      (λ e. omega (arith, list-le f g l (λ z k. h z (there k)), ap f e, ap g e))
+      (λ k. omega (arith, h y (here refl), list-lt f g l (λ z j. h z (there j)) x k s))
+      (member-cases m)
+
+  pub list-length : (f : A → ℕ) (l : List A) → ((x : A) → f x ≤ 1) → sum (map f l) ≤ length l
+  unfolding sum
+  list-length f [] h = omega arith
+  list-length f (y ∷ l) h = omega (arith, h y, list-length f l h)
