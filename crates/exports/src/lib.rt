@@ -4,7 +4,7 @@ ghost use lib.ListN.{length};
 ghost use Rattle.table.specs.Answer.{answerNumber, after, written};
 ghost use Rattle.rounding.specs.Rounding.{firstRounding};
 ghost use Rattle.rounding.specs.Call.{roundAnswer};
-ghost use Rattle.plan.specs.Call.{planBytes, planAnswer, plannedNumber, afterPlan};
+ghost use Rattle.plan.specs.Call.{planBytes, planAnswer, plannedNumber, Apart, afterPlan};
 ghost use Rattle.stored.specs.Form.{decode};
 ghost use Rattle.campaign.specs.Record.{startAnswer, started, campaignAnswer, taking};
 ghost use Rattle.campaign.specs.Calls.{recordOf};
@@ -40,6 +40,7 @@ pub extern "C" fn lufodimi_plan(
     ensures number { λ n. ⌜ n ≡ plannedNumber (planAnswer rows columns denominator (now (cells .entry)) (length (now (buffer .entry)))) ⌝ }
     ensures buffer { λ _. ⌜ now (buffer .exit) ≡ afterPlan (planAnswer rows columns denominator (now (cells .entry)) (length (now (buffer .entry))))
         (written (planBytes rows columns denominator (now (cells .entry))) (now (buffer .entry))) (now (buffer .entry)) ⌝ }
+    ensures apart { λ _. ⌜ Apart (planAnswer rows columns denominator (now (cells .entry)) (length (now (buffer .entry)))) ⌝ }
 {
     let planned = plan::plan(rows, columns, denominator, cells, buffer);
     plan::planned_number(planned)

@@ -22,7 +22,7 @@ use Rattle.stored.specs.Form.{planLength, encode}
 use Rattle.stored.specs.Write.{heldPlan, Writable}
 use Rattle.plan.specs.declared.Planned.{Planned}
 use Rattle.plan.specs.declared.Planned.the-variants.{Length, Refused}
-use Rattle.plan.specs.Call.{planBytes, ifAccepted, plannedOf, planAnswer, plannedNumber, afterPlan}
+use Rattle.plan.specs.Call.{planBytes, ifAccepted, plannedOf, planAnswer, plannedNumber, Apart, afterPlan}
 use Rattle.plan.specs.Grids.{AllHeld}
 use Rattle.plan.specs.Promises.{Promises}
 use Rattle.plan.proofs.Planning.{sizes, plan-held, bytes-length}
@@ -86,8 +86,8 @@ module _ (r c d : ℕ) (g : List ℕ) (k : Checked) (e : k ≡ checkOf r c d g) 
         let f' = rw (told .1) at f in
         (f' .0 ∙ rw (← e, h) refl, (f' .1 .0, λ u q. f' .1 .1))
 
--- every answer's number is at most 50,912
-refusal-small : (x : Refusal) → numberOf x ≤ 50912
+-- a refusal's number is below any length, and every answer's number is at most 50,912
+refusal-small : (x : Refusal) → numberOf x < 30
 refusal-small Size = omega arith
 refusal-small Denominator = omega arith
 refusal-small CellCount = omega arith
@@ -99,16 +99,29 @@ refusal-small Number = omega arith
 refusal-small Record = omega arith
 refusal-small Taken = omega arith
 
-pub number-small : (r c d : ℕ) (g : List ℕ) (room : ℕ) (p : Planned) → p ≡ planAnswer r c d g room
-    → ((t : Table) → checked.Accepted t ≡ checkOf r c d g → Promises r c d g) → plannedNumber p ≤ 50912
-unfolding planAnswer plannedOf
-number-small r c d g room p e f = rw e (go (checkOf r c d g) refl)
-  where
-    either : (b : Bool) → length (planBytes r c d g) ≤ 50912
-        → plannedNumber (cond b (Length (length (planBytes r c d g))) (Refused Buffer)) ≤ 50912
-    either true h = h
-    either false h = omega arith
+module _ (r c d : ℕ) (g : List ℕ) (room : ℕ) (p : Planned) (e : p ≡ planAnswer r c d g room)
+    (f : (t : Table) → checked.Accepted t ≡ checkOf r c d g → Promises r c d g) where
+  pub number-apart : Apart p
+  unfolding planAnswer plannedOf
+  number-apart = rw e (go (checkOf r c d g) refl)
+    where
+      either : (b : Bool) → 30 ≤ length (planBytes r c d g) → Apart (cond b (Length (length (planBytes r c d g))) (Refused Buffer))
+      either true h = h
+      either false h = omega arith
 
-    go : (k : Checked) → checkOf r c d g ≡ k → plannedNumber (ifAccepted k (plannedOf r c d g room)) ≤ 50912
-    go (checked.Accepted t) q = either (leb (length (planBytes r c d g)) room) (f t (sym q) .len-high)
-    go (checked.Refused x) q = refusal-small x
+      go : (k : Checked) → checkOf r c d g ≡ k → Apart (ifAccepted k (plannedOf r c d g room))
+      go (checked.Accepted t) q = either (leb (length (planBytes r c d g)) room) (f t (sym q) .len-low)
+      go (checked.Refused x) q = refusal-small x
+
+  pub number-small : plannedNumber p ≤ 50912
+  unfolding planAnswer plannedOf
+  number-small = rw e (go (checkOf r c d g) refl)
+    where
+      either : (b : Bool) → length (planBytes r c d g) ≤ 50912
+          → plannedNumber (cond b (Length (length (planBytes r c d g))) (Refused Buffer)) ≤ 50912
+      either true h = h
+      either false h = omega arith
+
+      go : (k : Checked) → checkOf r c d g ≡ k → plannedNumber (ifAccepted k (plannedOf r c d g room)) ≤ 50912
+      go (checked.Accepted t) q = either (leb (length (planBytes r c d g)) room) (f t (sym q) .len-high)
+      go (checked.Refused x) q = omega (arith, refusal-small x)

@@ -1,7 +1,7 @@
 -- The call "plan" (01, "Stored plan, form 1" and "Turned back": 1, 2, 3, 4, 7). Assumes nothing.
 use mathlib.Core.Bool.{cond}
 use mathlib.Core.List.{List}
-use Prim.Native.Nat.{ℕ}
+use Prim.Native.Nat.{ℕ, _<_, _≤_}
 use lib.ListN.{length}
 use lib.Dec.{leb}
 use Rattle.table.specs.Check.{numberOf, checkOf}
@@ -34,6 +34,11 @@ planAnswer r c d g room = ifAccepted (checkOf r c d g) (plannedOf r c d g room)
 abbrev pub plannedNumber : Planned → ℕ
 plannedNumber (Length n) = n
 plannedNumber (Refused x) = numberOf x
+
+-- the number tells which of the two it is: a length is 30 or more, and no refusal's number is
+abbrev pub Apart : Planned → Type 0
+Apart (Length n) = 30 ≤ n
+Apart (Refused x) = numberOf x < 30
 
 -- "On a refusal every lent buffer [..] keeps its contents.": the buffer after an answer, of the new contents and the old
 abbrev pub afterPlan : Planned → List ℕ → List ℕ → List ℕ

@@ -1,4 +1,4 @@
-use Rattle.plan.proofs.PlanCalls.{number-small}
+use Rattle.plan.proofs.PlanCalls.{number-small, number-apart}
 use Rattle.exports.proofs.Answers.{as-plan-number}
 use borrow.Author.Needs.{needs}
 use Rattle.exports.proofs.lufodimi_plan.Statement.{statement}
@@ -18,7 +18,7 @@ same-length c = search needs
 returns : tie.Need-returns
 returns c =
     let r = c .before .before .before .plan .ensures in
-    as-plan-number _ _ _ (c .planned-number .ensures) (r .0) (r .1 .0)
+    as-plan-number _ _ _ (c .planned-number .ensures) (r .0) (r .1 .0) (number-apart _ _ _ _ _ _ (r .0) (r .1 .1))
 
 pub lufodimi-plan-spec : {M : Type 1} → statement M
 lufodimi-plan-spec = tie.close (tie.spec plan-requires planned-number-requires same-length returns)
