@@ -26,7 +26,7 @@ use Rattle.stored.specs.Parts.{sizesOf}
 use Rattle.table.specs.Fill.{Filled}
 use Rattle.table.proofs.Filling.{front-more, front-all}
 use Rattle.stored.proofs.Opening.{is-open, opened-laid}
-use Rattle.stored.proofs.Opens.{answer-opens, opens-consistent}
+use Rattle.stored.proofs.Opens.{answer-opens, opens-within}
 use Rattle.campaign.specs.Record.{CampaignRecord, bitOf, bitBytes, cellCount, roomFor, spareClear, takenSum, fits, startAnswer, started, campaignAnswer, taking}
 use Rattle.campaign.specs.Calls.{recordOf, Leaves}
 use Rattle.campaign.specs.Parts.{ifOpened, openFor, orRefused, Addable, Fitted}
@@ -274,7 +274,7 @@ module _ {b : List ℕ} {s : CampaignRecord} {d room : ℕ} {t : Sizes} (a : Acc
   count-small = omega (arith, fit-count (decode b) s (a .fit), count-room (s .bits) number-below (a .new), few)
 
   cell-small : (i : ℕ) → i < cellCount (decode b) → getD (decode b .cells) i 0 ≤ 65535000
-  cell-small i l = omega (arith, opens-consistent b opened-by .within i (omega (arith, sound b opened-by .cells)), few)
+  cell-small i l = omega (arith, opens-within b opened-by i (omega (arith, sound b opened-by .cells)), few)
 
   module _ (counts counts′ : List ℕ) (m : length counts ≡ room) (w : counts′ ≡ written (drawnArray b d) counts) where
     long : length (drawnArray b d) ≡ t .rows * t .columns

@@ -10,14 +10,14 @@ use lib.ListN.{length}
 use lib.Dec.{eqb}
 use mir.Val.{Fits}
 use mir.Syntax.{w64}
-use borrow.Author.Tests.{eq-eqb, ne-eqb, eqb-true, le-leb, not-true, not-false}
+use borrow.Author.Tests.{eq-eqb, ne-eqb, eqb-true, not-true, not-false}
 use Rattle.table.specs.Check.{upTo}
-use Rattle.table.proofs.Lists.{and-left, and-right, and-both}
+use Rattle.table.proofs.Lists.{and-left, and-right}
 use Rattle.table.proofs.Checks.{upTo-low, upTo-high}
 use Rattle.stored.specs.Form.{bodyAt, planLength, formOf, rowsOf, columnsOf, arraysOf, zeroOf, offsetOf, denominatorOf, laidOut}
 use Rattle.stored.specs.declared.Sizes.{Sizes}
 use Rattle.stored.specs.Parts.{sizesOf, headRight, offsetsRight, Laid, Contents}
-use Rattle.stored.proofs.Every.{Passed, passed-none, passed-more, passed-all, every-intro, every-not, every-elim}
+use Rattle.stored.proofs.Every.{Passed, passed-none, passed-more, passed-all, every-not, every-elim}
 
 -- products of sizes are small
 pub cells-few : {r c : ℕ} → r ≤ 12 → c ≤ 12 → r * c ≤ 144
@@ -155,7 +155,7 @@ headed b h =
       denominator = upTo-high 65535 _ (and-right (f && z && r && c && k) d h);
     }
 
--- a plan passes the tests of its layout exactly if it is laid out
+-- a plan that passes the tests of its layout is laid out
 pub laid : (b : List ℕ) → laidOut b ≡ true → Laid (rowsOf b) (columnsOf b) (arraysOf b) (denominatorOf b) b
 unfolding laidOut headRight
 laid b h =
@@ -181,22 +181,6 @@ laid b h =
       len = eqb-true _ _ (and-right (headRight b) e one);
       offsets = λ i l. eqb-true _ _ (every-elim _ _ (and-right (headRight b && e) o h) i (omega arith));
     }
-
-within : {bound n : ℕ} → 1 ≤ n → n ≤ bound → upTo bound n ≡ true
-within h l = and-both (le-leb _ _ h) (le-leb _ _ l)
-
-pub laid-intro : (b : List ℕ) → Laid (rowsOf b) (columnsOf b) (arraysOf b) (denominatorOf b) b → laidOut b ≡ true
-unfolding laidOut
-laid-intro b l =
-    and-both (and-both (and-both (and-both (and-both (and-both (and-both
-    (eq-eqb _ _ (l .form-is))
-    (eq-eqb _ _ (l .zero-is)))
-    (within (l .some-rows) (l .rows)))
-    (within (l .some-columns) (l .columns)))
-    (within (l .some-arrays) (l .arrays)))
-    (within (l .some-denominator) (l .denominator)))
-    (eq-eqb _ _ (l .len)))
-    (every-intro _ (suc (arraysOf b)) (λ i h. eq-eqb _ _ (l .offsets i (omega arith))))
 
 -- the ways through the test of a layout
 pub short : (b : List ℕ) → length b < 16 → false ≡ laidOut b

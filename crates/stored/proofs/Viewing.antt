@@ -18,7 +18,7 @@ use Rattle.stored.specs.declared.view.Reading.the-variants.{Value, Missi
 use Rattle.stored.specs.Form.{fieldOf, offsetOf}
 use Rattle.stored.specs.View.{hasArray, hasCell, weightAnswer, countAnswer}
 use Rattle.stored.specs.Parts.{countIn}
-use Rattle.stored.proofs.Numbers.{part-number, part-room}
+use Rattle.stored.proofs.Numbers.{part-number}
 
 -- the tests of an array's number
 module _ (b : List ℕ) (s : Summary) (k : ℕ) where
@@ -81,9 +81,6 @@ module _ (b : List ℕ) (s : Summary) (k : ℕ) where
           module _ (m : 2 * place + 2 ≤ length b) (n : at ≤ length b - (2 * place + 2)) where
             inside : offsetOf b k + 2 * place + 2 ≤ length b
             inside = omega arith
-
-            pub count-room : 2 * place + 2 ≤ length (take (length b - at) (drop at b))
-            count-room = part-room b at (offsetOf b k) ae _ (omega (arith, inside))
 
             pub count-found : (x : ℕ) → x ≡ countIn (take (length b - at) (drop at b)) place → Value x ≡ countAnswer b s k p q
             unfolding countAnswer

@@ -1,17 +1,15 @@
 -- Laws on writing a plan that a caller holds in plain arrays. Assumes nothing.
-use mathlib.Core.Path.{_≡_, refl, sym, ap, subst, _∙_}
+use mathlib.Core.Path.{_≡_, refl, sym, ap, _∙_}
 use mathlib.Core.List.{List, _++_}
-use Prim.Native.Nat.{ℕ, zero, suc, _+_, _-_, _*_, _^_, _<_, _≤_}
+use Prim.Native.Nat.{ℕ, zero, suc, _+_, _-_, _*_, _<_, _≤_}
 use native.Mathlib.Omega.{arith}
-use lib.Arith.{digits-lt}
 use lib.ListN.{length, getD, length-append}
 use Rattle.table.specs.Lists.{tabulate, joinTo}
-use Rattle.table.specs.Shape.{Shape}
 use Rattle.table.specs.Answer.{written}
 use Rattle.table.proofs.Lists.{length-tabulate, getD-tabulate}
 use Rattle.stored.specs.Plan.{Weighted, arrayAt}
 use Rattle.stored.specs.Form.{bytes, head, entry, bodyAt, fieldIn, encode}
-use Rattle.stored.specs.Write.{FitArray, WellShaped, heldArray, heldPlan, heldField, heldEntry, numbers, putAt, Writable}
+use Rattle.stored.specs.Write.{heldArray, heldPlan, heldField, heldEntry, numbers, putAt, Writable}
 use Rattle.stored.proofs.Joins.{length-join, join-ext, join-join}
 use Rattle.stored.proofs.Encodings.{length-entry, length-numbers, length-head}
 use Rattle.stored.proofs.Puts.{put-then, put-start, Put, put-more}
@@ -52,26 +50,6 @@ module _ (r c d : ℕ) (g : List ℕ) (k : ℕ) (weights counts : List ℕ) wher
       ∙ sym (join-join k (r * c) (λ i. bytes 2 (getD counts i 0)))
       in
       rw (length-tabulate k held, contents, bodies) refl
-
-  -- it is a plan that form 1 can hold
-  pub held-shaped : Shape r c g → 1 ≤ d → d ≤ 65535 → ((i : ℕ) → i < r * c → getD g i 0 < 2 ^ 32) → 1 ≤ k → k ≤ 170
-      → ((i : ℕ) → i < k → getD weights i 0 < 2 ^ 32) → ((i : ℕ) → i < k * (r * c) → getD counts i 0 < 2 ^ 16)
-      → WellShaped (heldPlan r c d g k weights counts)
-  held-shaped shape low high cell some few weight count = record {
-    shape = shape;
-    some-denominator = low;
-    denominator = high;
-    cell = cell;
-    some-arrays = omega (arith, length-tabulate k held);
-    arrays = omega (arith, length-tabulate k held);
-    array = λ j l.
-        let h : j < k = omega (arith, length-tabulate k held) in
-        subst (FitArray (r * c)) (sym (getD-tabulate k held j _ h)) (record {
-          weight = weight j h;
-          counts = length-tabulate (r * c) _;
-          count = λ i m. rw (getD-tabulate (r * c) (λ i. getD counts (j * (r * c) + i) 0) i 0 m) (count (j * (r * c) + i) (digits-lt h m));
-        });
-  }
 
 -- the four parts, one after another
 pub plan-written : (r c d : ℕ) (g : List ℕ) (k : ℕ) (weights counts old one two three new : List ℕ) (a b : ℕ) → Writable r c g k weights counts old

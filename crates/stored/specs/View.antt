@@ -1,8 +1,9 @@
--- What the readers of a view answer. Assumes nothing.
+-- What the readers of a view answer (01, "An opened plan is a view over the lent bytes and copies none of them."). Assumes nothing.
+use mathlib.Core.Path.{_≡_}
 use mathlib.Core.Bool.{Bool, cond, _&&_}
 use mathlib.Core.List.{List}
-use Prim.Native.Nat.{ℕ, _+_, _*_}
-use lib.ListN.{length}
+use Prim.Native.Nat.{ℕ, _+_, _-_, _*_, _<_, _≤_}
+use lib.ListN.{length, getD}
 use lib.Dec.{leb, ltb}
 use Rattle.table.specs.Table.{maxRows, maxColumns, maxArrays}
 use Rattle.table.specs.Check.{upTo, numberOf}
@@ -11,7 +12,9 @@ use Rattle.stored.specs.declared.Opened.the-variants as opened
 use Rattle.stored.specs.declared.view.Summary.{Summary}
 use Rattle.stored.specs.declared.view.Reading.{Reading}
 use Rattle.stored.specs.declared.view.Reading.the-variants.{Value, Missing}
-use Rattle.stored.specs.Form.{fieldOf, offsetOf, countOf}
+use Rattle.stored.specs.Plan.{arrayAt}
+use Rattle.stored.specs.Form.{rowsOf, columnsOf, arraysOf, fieldOf, offsetOf, countOf, decode}
+use Rattle.stored.specs.Open.{openAnswer}
 
 -- what opening finds, in plain numbers: 0 or the number of the refusal, and the sizes, 0 where there is a refusal
 abbrev pub summaryOf : Opened → Summary
@@ -22,15 +25,23 @@ summaryOf (opened.Refused x) = record { refusal = numberOf x; rows = 0; columns 
 abbrev pub hasArray : List ℕ → Summary → ℕ → Bool
 hasArray b s k = upTo (s .arrays) k && leb k maxArrays && leb (16 + 8 * k) (length b)
 
--- its weight
+-- the weight of array k
 unfoldable pub weightAnswer : List ℕ → Summary → ℕ → Reading
 weightAnswer b s k = cond (hasArray b s k) (Value (fieldOf b k)) Missing
 
--- its count in row p and column q, both from 0
+-- the table has a row p and a column q, both from 0, within the bounds
 abbrev pub hasCell : Summary → ℕ → ℕ → Bool
 hasCell s p q = ltb p (s .rows) && ltb p maxRows && ltb q (s .columns) && leb (s .columns) maxColumns
 
+-- the count of array k in row p and column q, if it stands among the bytes
 unfoldable pub countAnswer : List ℕ → Summary → ℕ → ℕ → ℕ → Reading
 countAnswer b s k p q =
     let i = p * s .columns + q in
     cond (hasArray b s k && hasCell s p q && leb (offsetOf b k + 2 * i + 2) (length b)) (Value (countOf b k i)) Missing
+
+-- the readers find every weight and count of the plan that the bytes hold: arrays from 1 on, rows and columns from 0 on
+pub record Readers (b : List ℕ) : Type 0 where
+  pub weight : (k : ℕ) → 1 ≤ k → k ≤ arraysOf b
+      → weightAnswer b (summaryOf (openAnswer b)) k ≡ Value (arrayAt (decode b .arrays) (k - 1) .weight)
+  pub count : (k p q : ℕ) → 1 ≤ k → k ≤ arraysOf b → p < rowsOf b → q < columnsOf b
+      → countAnswer b (summaryOf (openAnswer b)) k p q ≡ Value (getD (arrayAt (decode b .arrays) (k - 1) .counts) (p * columnsOf b + q) 0)
