@@ -20,9 +20,8 @@ use Rattle.stored.specs.declared.Sizes.{Sizes}
 use Rattle.stored.specs.declared.Opened.{Opened}
 use Rattle.stored.specs.declared.Opened.the-variants as opened
 use Rattle.stored.specs.Plan.{Plan}
-use Rattle.stored.specs.Form.{laidOut, decode}
+use Rattle.stored.specs.Form.{sizesOf, laidOut, decode}
 use Rattle.stored.specs.Open.{consistent, opens, openAnswer, drawnArray}
-use Rattle.stored.specs.Parts.{sizesOf}
 use Rattle.table.specs.Fill.{Filled}
 use Rattle.table.proofs.Filling.{front-more, front-all}
 use Rattle.stored.proofs.Opening.{is-open, opened-laid}

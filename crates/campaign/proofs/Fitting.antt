@@ -11,13 +11,13 @@ use lib.Dec.{eqb}
 use mir.Val.{Fits}
 use mir.Syntax.{w64}
 use borrow.Author.Tests.{eqb-true, eq-eqb, ne-eqb}
-use Rattle.table.specs.Lists.{sumTo}
+use Rattle.table.specs.Lists.{sumTo, every}
 use Rattle.table.proofs.Lists.{getD-tabulate, each-more}
 use Rattle.table.proofs.Sums.{sum-ext, sum-zero, sum-term, sum-mul, sum-add-range}
 use Rattle.stored.specs.declared.Sizes.{Sizes}
 use Rattle.stored.specs.Form.{rowsOf, columnsOf, arraysOf, offsetOf, decode}
 use Rattle.stored.specs.Open.{consistent, drawnArray}
-use Rattle.stored.specs.Parts.{every, weightOf, countAt, countIn, Laid, Stored, Reached}
+use Rattle.stored.specs.Parts.{weightOf, countAt, countIn, Laid, Stored, Reached}
 use Rattle.stored.proofs.Numbers.{number-drop}
 use Rattle.stored.proofs.Every.{Passed, passed-more, every-not, every-intro, every-elim, all-ext}
 use Rattle.stored.proofs.Entries.{sum-more}

@@ -8,7 +8,7 @@ use Rattle.table.specs.Table.{lines, total}
 use Rattle.table.specs.Whole.{whole, roundsTo}
 use Rattle.table.specs.Answer.{answerNumber, after}
 use Rattle.stored.specs.Plan.{Weighted, Plan, arrayFor}
-use Rattle.stored.specs.Form.{bytes, number, head, entry, encode, decode, laidOut}
+use Rattle.stored.specs.Form.{bytes, number, head, entry, encode, decode, headRight, laidOut}
 use Rattle.stored.specs.Open.{heldTo, consistent, opens}
 use Rattle.campaign.specs.Record.{CampaignRecord, bitOf, fits, startAnswer, started, campaignAnswer, taking}
 use Rattle.campaign.specs.Calls.{recordOf}
@@ -55,7 +55,7 @@ pub record Row : Type 0 where
   pub outcome : Outcome
 
 unfoldable pub outcomeOf : List ℕ → CampaignRecord → Call → Outcome
-unfolding stored number decode laidOut consistent opens tabulate sum sumTo all lines total whole roundsTo arrayFor bitOf fits startAnswer started campaignAnswer taking made
+unfolding stored number decode headRight laidOut consistent opens tabulate sum sumTo all lines total whole roundsTo arrayFor bitOf fits startAnswer started campaignAnswer taking made
 outcomeOf b s start =
     let a = startAnswer b s in
     record { opened = opens b; answer = answerNumber a; left = after a (started (decode b) s) s; result = [] }

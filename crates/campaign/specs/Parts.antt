@@ -5,7 +5,7 @@ use mathlib.Core.List.{List}
 use Prim.Native.Nat.{ℕ, _+_, _*_, _<_, _≤_}
 use lib.ListN.{length, getD}
 use lib.Dec.{leb, eqb}
-use Rattle.table.specs.Lists.{sumTo}
+use Rattle.table.specs.Lists.{sumTo, every}
 use Rattle.table.specs.Table.{maxArrays, maxDenominator}
 use Rattle.table.specs.declared.Answer.{Answer}
 use Rattle.table.specs.declared.Answer.the-variants.{Done, Refused}
@@ -13,8 +13,9 @@ use Rattle.table.specs.declared.Refusal.the-variants.{Buffer}
 use Rattle.stored.specs.declared.Sizes.{Sizes}
 use Rattle.stored.specs.declared.Opened.{Opened}
 use Rattle.stored.specs.declared.Opened.the-variants as opened
+use Rattle.stored.specs.Form.{sizesOf}
 use Rattle.stored.specs.Open.{openAnswer}
-use Rattle.stored.specs.Parts.{sizesOf, every, weightOf, countAt, Contents}
+use Rattle.stored.specs.Parts.{weightOf, countAt, Contents}
 use Rattle.campaign.specs.Record.{bitOf, bitBytes}
 
 -- how many of `count` bits from `from` on are set

@@ -4,7 +4,7 @@ use mathlib.Core.List.{List}
 use Prim.Native.Nat.{ℕ, _+_, _-_, _*_, _/_, _%_, _^_}
 use lib.ListN.{length, getD, set, replicate}
 use lib.Dec.{leb, ltb, eqb}
-use Rattle.table.specs.Lists.{tabulate, sumTo, all}
+use Rattle.table.specs.Lists.{tabulate, sumTo, every}
 use Rattle.table.specs.Answer.{written}
 use Rattle.table.specs.declared.Answer.{Answer}
 use Rattle.table.specs.declared.Answer.the-variants.{Done, Refused}
@@ -33,7 +33,7 @@ cellCount p = p .rows * p .columns
 
 -- "the spare bits are zero"
 abbrev pub spareClear : ℕ → List ℕ → Bool
-spareClear denominator bits = all (λ i. eqb (bitOf bits (denominator + i)) 0) (tabulate (8 * bitBytes denominator - denominator) (λ i. i))
+spareClear denominator bits = every (8 * bitBytes denominator - denominator) (λ i. eqb (bitOf bits (denominator + i)) 0)
 
 -- "the sum of the arrays of the taken numbers", at one cell
 abbrev pub takenSum : Plan → List ℕ → ℕ → ℕ
@@ -44,7 +44,7 @@ unfoldable pub fits : Plan → CampaignRecord → Bool
 fits p s =
     spareClear (p .denominator) (s .bits)
     && eqb (s .taken) (sumTo (p .denominator) (bitOf (s .bits)))
-    && all (λ i. eqb (getD (s .tally) i 0) (takenSum p (s .bits) i)) (tabulate (cellCount p) (λ i. i))
+    && every (cellCount p) (λ i. eqb (getD (s .tally) i 0) (takenSum p (s .bits) i))
 
 -- neither buffer of the record is shorter than the record of the plan
 abbrev pub roomFor : Plan → CampaignRecord → Bool

@@ -10,7 +10,7 @@ use Rattle.table.specs.Check.{checkOf}
 use Rattle.rounding.specs.Order.{firstOf}
 use Rattle.rounding.specs.Rounding.{isRounding, firstRounding}
 use Rattle.stored.specs.Plan.{arrayFor}
-use Rattle.stored.specs.Form.{encode, head, entry, bytes, number, laidOut, decode}
+use Rattle.stored.specs.Form.{encode, head, entry, bytes, number, headRight, laidOut, decode}
 use Rattle.stored.specs.Open.{openAnswer, consistent}
 use Rattle.plan.specs.Rounds.{limitOf, weightOf, without, roundsFrom, planOf}
 use Rattle.plan.specs.Examples.{examples, planned, bounds, checked, drawsOfFirst, slips}
@@ -28,5 +28,5 @@ unfolding planOf roundsFrom weightOf limitOf without tabulate sum least all tota
 draws-hold = refl
 
 pub slips-shut : (map (λ x. x .computed) slips ≡ map (λ x. x .right) slips) × (all (λ x. not (eqb (x .right) (x .wrong))) slips ≡ true)
-unfolding openAnswer encode head entry bytes joinTo number laidOut decode consistent weightOf limitOf tabulate sum least all total entryPlaces lines whole roundsTo isRounding
+unfolding openAnswer encode head entry bytes joinTo number headRight laidOut decode consistent weightOf limitOf tabulate sum least all total entryPlaces lines whole roundsTo isRounding
 slips-shut = (refl, refl)

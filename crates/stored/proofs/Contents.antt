@@ -11,7 +11,7 @@ use lib.Dec.{leb, eqb}
 use mir.Val.{Fits}
 use mir.Syntax.{w64}
 use borrow.Author.Tests.{le-leb, lt-leb, eq-eqb, ne-eqb, not-true, not-false}
-use Rattle.table.specs.Lists.{tabulate, sum, sumTo, all}
+use Rattle.table.specs.Lists.{tabulate, sum, sumTo, all, every}
 use Rattle.table.specs.Table.{total}
 use Rattle.table.specs.Whole.{roundsTo}
 use Rattle.table.specs.Check.{cellsWithin}
@@ -20,7 +20,7 @@ use Rattle.table.proofs.Sums.{sum-ext, sum-map}
 use Rattle.stored.specs.Plan.{Weighted}
 use Rattle.stored.specs.Form.{bodyAt, rowsOf, columnsOf, arraysOf, fieldOf, offsetOf, denominatorOf, cellOf, countOf, decode}
 use Rattle.stored.specs.Open.{heldTo, held, weighted, consistent}
-use Rattle.stored.specs.Parts.{every, cellIn, countIn, weightOf, countAt, weightedIn, weightsRight, heldIn, arrayHeld, Laid, Bodies, Divides, Stored, Reached}
+use Rattle.stored.specs.Parts.{cellIn, countIn, weightOf, countAt, weightedIn, weightsRight, heldIn, arrayHeld, Laid, Bodies, Divides, Stored, Reached}
 use Rattle.stored.proofs.Numbers.{rest, number-drop, part-room}
 use Rattle.stored.proofs.Every.{and-assoc, all-ext, Passed, passed-none, passed-more, passed-all, every-not}
 use Rattle.stored.proofs.Layouts.{cells-few}

@@ -12,7 +12,7 @@ use borrow.Author.Tests.{le-leb, eq-eqb}
 use Rattle.table.specs.Lists.{tabulate}
 use Rattle.table.proofs.Lists.{length-tabulate, getD-tabulate, all-tabulate}
 use Rattle.stored.specs.Plan.{Plan, arrayAt}
-use Rattle.stored.specs.Form.{bytes, number, head, entry, bodyAt, fieldIn, encode, decode, laidOut}
+use Rattle.stored.specs.Form.{bytes, number, head, entry, bodyAt, fieldIn, encode, decode, headRight, laidOut}
 use Rattle.stored.specs.Form.{formOf, rowsOf, columnsOf, arraysOf, zeroOf, fieldOf, offsetOf, denominatorOf, cellOf, countOf}
 use Rattle.stored.specs.Write.{WellShaped}
 use Rattle.stored.proofs.Joins.{holds-left, holds-right}
@@ -91,7 +91,7 @@ module _ {p : Plan} (w : WellShaped p) where
   decode-encode = simp (rows-is, columns-is, arrays-is, denominator-is, cells-are, arrays-are)
 
   pub encode-laid-out : laidOut b ≡ true
-  unfolding laidOut
+  unfolding headRight laidOut
   encode-laid-out =
       let t = w .shape in
       let offsets = all-tabulate (λ i. eqb (offsetOf b i) (bodyAt r c k i)) (suc k) (λ i. i) (λ i l. eq-eqb _ _ (offset-is i (le-of-suc-le-suc l))) in

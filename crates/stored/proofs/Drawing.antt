@@ -8,8 +8,8 @@ use native.Mathlib.Omega.{arith}
 use lib.ListN.{length, take, drop}
 use lib.Dec.{leb, ltb}
 use borrow.Author.Tests.{eqb-true, le-leb, lt-leb, lt-ltb, le-ltb}
-use Rattle.table.specs.Lists.{tabulate, sumTo}
-use Rattle.table.specs.Answer.{after, written}
+use Rattle.table.specs.Lists.{tabulate, sumTo, every}
+use Rattle.table.specs.Answer.{written}
 use Rattle.table.specs.Check.{cellsWithin}
 use Rattle.table.specs.declared.Answer.the-variants.{Done, Refused}
 use Rattle.table.specs.declared.Refusal.{Refusal}
@@ -20,7 +20,7 @@ use Rattle.stored.specs.declared.Sizes.{Sizes}
 use Rattle.stored.specs.declared.Opened.the-variants as opened
 use Rattle.stored.specs.Form.{rowsOf, columnsOf, arraysOf, denominatorOf, offsetOf, laidOut, decode}
 use Rattle.stored.specs.Open.{consistent, openAnswer, drawAnswer, drawnArray}
-use Rattle.stored.specs.Parts.{sizesOf, every, cellIn, countIn, weightOf, weightsRight, arrayHeld, Laid, Contents, Belongs}
+use Rattle.stored.specs.Parts.{cellIn, countIn, weightOf, weightsRight, arrayHeld, Laid, Contents, Belongs}
 use Rattle.stored.proofs.Numbers.{rest, part-room}
 use Rattle.stored.proofs.Entries.{sum-more}
 use Rattle.stored.proofs.Contents.{made, weight-in, counts-in, cellMet, consistent-parts, stored-by, body-inside}

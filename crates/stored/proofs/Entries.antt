@@ -11,13 +11,13 @@ use lib.ListN.{length}
 use mir.Val.{Fits}
 use mir.Syntax.{w64}
 use borrow.Author.Tests.{not-true, not-false}
-use Rattle.table.specs.Lists.{tabulate, sumTo, all}
+use Rattle.table.specs.Lists.{tabulate, sumTo, all, every}
 use Rattle.table.specs.Table.{places, total, cellPlaces, rowPlaces, columnPlaces, lines}
 use Rattle.table.specs.Whole.{roundsTo}
 use Rattle.table.proofs.Lists.{getD-tabulate, all-append}
 use Rattle.table.proofs.Sums.{sum-ext}
 use Rattle.table.proofs.Totals.{total-sum}
-use Rattle.stored.specs.Parts.{every, cellIn, countIn, entryIn, entryHeld, heldIn, Inside, Lines, Divides, Bodies}
+use Rattle.stored.specs.Parts.{cellIn, countIn, entryIn, entryHeld, heldIn, Inside, Lines, Divides, Bodies}
 use Rattle.stored.proofs.Every.{all-ext}
 
 -- one number more

@@ -1,14 +1,12 @@
 -- Laws on tests of every element of lists that are made of a function. Assumes nothing.
 use mathlib.Core.Path.{_≡_, refl, sym, ap, _∙_}
 use mathlib.Core.Bool.{Bool, true, false, not, _&&_}
-use mathlib.Core.List.{List}
 use Prim.Native.Nat.{ℕ, zero, suc, _+_, _<_, _≤_, suc-le-suc}
 use native.Mathlib.Omega.{arith}
 use borrow.Author.Count.{below-more}
 use borrow.Author.Tests.{not-true, not-false}
-use Rattle.table.specs.Lists.{tabulate, all}
+use Rattle.table.specs.Lists.{tabulate, all, every}
 use Rattle.table.proofs.Lists.{length-tabulate, getD-tabulate, all-intro, all-elim, all-fails}
-use Rattle.stored.specs.Parts.{every}
 
 pub and-assoc : (a b c : Bool) → (a && (b && c)) ≡ (a && b && c)
 and-assoc true b c = refl

@@ -14,9 +14,9 @@ use borrow.Author.Tests.{eq-eqb, ne-eqb, eqb-true, not-true, not-false}
 use Rattle.table.specs.Check.{upTo}
 use Rattle.table.proofs.Lists.{and-left, and-right}
 use Rattle.table.proofs.Checks.{upTo-low, upTo-high}
-use Rattle.stored.specs.Form.{bodyAt, planLength, formOf, rowsOf, columnsOf, arraysOf, zeroOf, offsetOf, denominatorOf, laidOut}
+use Rattle.stored.specs.Form.{bodyAt, planLength, formOf, rowsOf, columnsOf, arraysOf, zeroOf, offsetOf, denominatorOf, sizesOf, headRight, laidOut}
 use Rattle.stored.specs.declared.Sizes.{Sizes}
-use Rattle.stored.specs.Parts.{sizesOf, headRight, offsetsRight, Laid, Contents}
+use Rattle.stored.specs.Parts.{offsetsRight, Laid, Contents}
 use Rattle.stored.proofs.Every.{Passed, passed-none, passed-more, passed-all, every-not, every-elim}
 
 -- products of sizes are small
@@ -157,7 +157,7 @@ headed b h =
 
 -- a plan that passes the tests of its layout is laid out
 pub laid : (b : List ℕ) → laidOut b ≡ true → Laid (rowsOf b) (columnsOf b) (arraysOf b) (denominatorOf b) b
-unfolding laidOut headRight
+unfolding laidOut
 laid b h =
     let e = eqb (length b) (planLength (rowsOf b) (columnsOf b) (arraysOf b)) in
     let o = offsetsRight b (rowsOf b) (columnsOf b) (arraysOf b) in
@@ -192,7 +192,7 @@ short b h =
 
 module _ (b : List ℕ) (t : Bool) (e : t ≡ headRight b) where
   pub bad-head : not t ≡ true → false ≡ laidOut b
-  unfolding laidOut headRight
+  unfolding laidOut
   bad-head h = simp (sym e ∙ not-true t h)
 
   module _ (h : not t ≡ false) (s : Sizes) (is : s ≡ sizesOf b) where
@@ -204,7 +204,7 @@ module _ (b : List ℕ) (t : Bool) (e : t ≡ headRight b) where
 
     module _ (n : ℕ) (ne : n ≡ planLength (s .rows) (s .columns) (s .arrays)) where
       pub bad-length : (length b ≡ n → ⊥) → false ≡ laidOut b
-      unfolding laidOut headRight
+      unfolding laidOut
       bad-length q =
           let m : n ≡ planLength (rowsOf b) (columnsOf b) (arraysOf b) = rw is at ne in
           simp (ne-eqb (length b) _ (λ p. q (p ∙ sym m)), and-false)
@@ -214,7 +214,7 @@ module _ (b : List ℕ) (t : Bool) (e : t ≡ headRight b) where
         contents-there = (sizes-bounded .0, sizes-bounded .1, record { arrays = sizes-bounded .2; room = omega (arith, ne, q) })
 
         pub laid-by : (x : Bool) → x ≡ offsetsRight b (s .rows) (s .columns) (s .arrays) → x ≡ laidOut b
-        unfolding laidOut headRight
+        unfolding laidOut
         laid-by x xe =
             let m : n ≡ planLength (rowsOf b) (columnsOf b) (arraysOf b) = rw is at ne in
             let o : x ≡ offsetsRight b (rowsOf b) (columnsOf b) (arraysOf b) = rw is at xe in

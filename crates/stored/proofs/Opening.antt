@@ -13,9 +13,9 @@ use Rattle.table.proofs.Totals.{small-product}
 use Rattle.stored.specs.declared.Sizes.{Sizes}
 use Rattle.stored.specs.declared.Opened.{Opened}
 use Rattle.stored.specs.declared.Opened.the-variants as opened
-use Rattle.stored.specs.Form.{laidOut, decode}
+use Rattle.stored.specs.Form.{sizesOf, laidOut, decode}
 use Rattle.stored.specs.Open.{consistent, openAnswer}
-use Rattle.stored.specs.Parts.{sizesOf, Laid}
+use Rattle.stored.specs.Parts.{Laid}
 use Rattle.stored.proofs.Layouts.{laid}
 
 module _ (b : List ℕ) (t : Bool) (e : t ≡ laidOut b) where

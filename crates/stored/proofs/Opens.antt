@@ -14,11 +14,11 @@ use Rattle.table.proofs.Lists.{getD-tabulate, all-elim, and-left, and-right, an
 use Rattle.stored.specs.declared.Sizes.{Sizes}
 use Rattle.stored.specs.declared.Opened.the-variants as opened
 use Rattle.stored.specs.Plan.{Plan, arrayAt}
-use Rattle.stored.specs.Form.{rowsOf, columnsOf, arraysOf, fieldOf, offsetOf, denominatorOf, countOf, laidOut, decode}
+use Rattle.stored.specs.Form.{rowsOf, columnsOf, arraysOf, fieldOf, offsetOf, denominatorOf, sizesOf, countOf, laidOut, decode}
 use Rattle.stored.specs.Open.{held, consistent, opens, openAnswer}
 use Rattle.stored.specs.declared.view.Reading.the-variants.{Value}
 use Rattle.stored.specs.View.{summaryOf, hasArray, weightAnswer, countAnswer, Readers}
-use Rattle.stored.specs.Parts.{sizesOf, Laid}
+use Rattle.stored.specs.Parts.{Laid}
 use Rattle.stored.proofs.Layouts.{laid}
 use Rattle.stored.proofs.Contents.{made, body-inside}
 use Rattle.stored.proofs.Opening.{is-open}

@@ -4,9 +4,10 @@ use mathlib.Core.List.{List, [], _∷_, _++_}
 use Prim.Native.Nat.{ℕ, zero, suc, _+_, _*_, _/_, _%_}
 use lib.ListN.{length, getD}
 use lib.Dec.{eqb}
-use Rattle.table.specs.Lists.{tabulate, joinTo, all}
+use Rattle.table.specs.Lists.{tabulate, joinTo, every}
 use Rattle.table.specs.Table.{maxRows, maxColumns, maxArrays, maxDenominator}
 use Rattle.table.specs.Check.{upTo}
+use Rattle.stored.specs.declared.Sizes.{Sizes}
 use Rattle.stored.specs.Plan.{Plan, arrayAt}
 
 -- "Low byte first.": a number in n bytes
@@ -19,7 +20,8 @@ unfoldable pub number : ℕ → List ℕ → ℕ → ℕ
 number zero b at = 0
 number (suc n) b at = getD b at 0 + 256 * number n b (at + 1)
 
--- "Then the bodies without gaps, in the order of the contents: the table, 4 bytes a cell; each array, 2 bytes a cell.": where body k begins
+-- "Then the bodies without gaps, in the order of the contents: the table, 4 bytes a cell; each array, 2 bytes a cell."
+-- where body i of a plan with k arrays begins: 0 is the table's, i is array i's
 abbrev pub bodyAt : ℕ → ℕ → ℕ → ℕ → ℕ
 bodyAt r c k zero = 8 + 8 * (k + 1)
 bodyAt r c k (suc i) = 8 + 8 * (k + 1) + 4 * (r * c) + i * (2 * (r * c))
@@ -76,7 +78,11 @@ offsetOf b k = number 4 b (12 + 8 * k)
 abbrev pub denominatorOf : List ℕ → ℕ
 denominatorOf b = fieldOf b 0
 
--- "The body of array k begins where its contents entry points.": cell i of the table, and of array k
+-- the sizes that the fields say
+abbrev pub sizesOf : List ℕ → Sizes
+sizesOf b = record { rows = rowsOf b; columns = columnsOf b; arrays = arraysOf b; denominator = denominatorOf b }
+
+-- "The body of array k begins where its contents entry points.": cell i of the table, and count i of array k
 abbrev pub cellOf : List ℕ → ℕ → ℕ
 cellOf b i = number 4 b (offsetOf b 0 + 4 * i)
 
@@ -95,10 +101,15 @@ decode b =
       arrays = tabulate (arraysOf b) (λ k. record { weight = fieldOf b (suc k); counts = tabulate n (countOf b (suc k)) });
     }
 
+-- form, zero field and bounds
+unfoldable pub headRight : List ℕ → Bool
+headRight b =
+    eqb (formOf b) 1 && eqb (zeroOf b) 0
+    && upTo maxRows (rowsOf b) && upTo maxColumns (columnsOf b) && upTo maxArrays (arraysOf b) && upTo maxDenominator (denominatorOf b)
+
 -- "if the layout, the exact length and the bounds hold": else 5, "form, zero field, r, c, K, D, an offset or the length wrong"
 unfoldable pub laidOut : List ℕ → Bool
 laidOut b =
-    eqb (formOf b) 1 && eqb (zeroOf b) 0
-    && upTo maxRows (rowsOf b) && upTo maxColumns (columnsOf b) && upTo maxArrays (arraysOf b) && upTo maxDenominator (denominatorOf b)
+    headRight b
     && eqb (length b) (planLength (rowsOf b) (columnsOf b) (arraysOf b))
-    && all (λ k. eqb (offsetOf b k) (bodyAt (rowsOf b) (columnsOf b) (arraysOf b) k)) (tabulate (suc (arraysOf b)) (λ k. k))
+    && every (suc (arraysOf b)) (λ k. eqb (offsetOf b k) (bodyAt (rowsOf b) (columnsOf b) (arraysOf b) k))

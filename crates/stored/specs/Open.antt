@@ -4,7 +4,7 @@ use mathlib.Core.List.{List, map}
 use Prim.Native.Nat.{ℕ, _*_}
 use lib.ListN.{getD}
 use lib.Dec.{leb, ltb, eqb}
-use Rattle.table.specs.Lists.{tabulate, sum, all}
+use Rattle.table.specs.Lists.{sum, all, every}
 use Rattle.table.specs.Table.{lines, total}
 use Rattle.table.specs.Whole.{roundsTo}
 use Rattle.table.specs.Check.{cellsWithin, numberOf}
@@ -14,7 +14,7 @@ use Rattle.table.specs.declared.Refusal.the-variants.{Layout, Content, Buffer, 
 use Rattle.stored.specs.declared.Opened.{Opened}
 use Rattle.stored.specs.declared.Opened.the-variants as opened
 use Rattle.stored.specs.Plan.{Weighted, Plan, arrayFor}
-use Rattle.stored.specs.Form.{rowsOf, columnsOf, arraysOf, denominatorOf, laidOut, decode}
+use Rattle.stored.specs.Form.{rowsOf, columnsOf, denominatorOf, sizesOf, laidOut, decode}
 
 -- "each cell, row total and column total of each array is the table's entry over D rounded down or up, whole ones kept":
 -- the entries that an opened plan is held to
@@ -36,7 +36,7 @@ consistent p =
     && all (λ a. leb 1 (a .weight)) (p .arrays)
     && eqb (sum (map (λ a. a .weight) (p .arrays))) (p .denominator)
     && all (held p) (p .arrays)
-    && all (λ i. eqb (weighted (p .arrays) i) (getD (p .cells) i 0)) (tabulate (p .rows * p .columns) (λ i. i))
+    && every (p .rows * p .columns) (λ i. eqb (weighted (p .arrays) i) (getD (p .cells) i 0))
 
 -- "A plan opens if": the two conditions above
 unfoldable pub opens : List ℕ → Bool
@@ -50,9 +50,7 @@ ifOpen b rest = cond (laidOut b) (cond (consistent (decode b)) rest (Refused Con
 unfoldable pub openAnswer : List ℕ → Opened
 openAnswer b =
     cond (laidOut b)
-    (cond (consistent (decode b))
-    (opened.Plan (record { rows = rowsOf b; columns = columnsOf b; arrays = arraysOf b; denominator = denominatorOf b }))
-    (opened.Refused Content))
+    (cond (consistent (decode b)) (opened.Plan (sizesOf b)) (opened.Refused Content))
     (opened.Refused Layout)
 
 abbrev pub openedNumber : Opened → ℕ

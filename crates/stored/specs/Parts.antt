@@ -5,27 +5,11 @@ use mathlib.Core.List.{List}
 use Prim.Native.Nat.{ℕ, suc, _+_, _*_, _<_, _≤_}
 use lib.ListN.{length, drop}
 use lib.Dec.{leb, eqb}
-use Rattle.table.specs.Lists.{tabulate, sumTo, all}
-use Rattle.table.specs.Table.{maxRows, maxColumns, maxArrays, maxDenominator, total}
-use Rattle.table.specs.Check.{upTo}
+use Rattle.table.specs.Lists.{tabulate, sumTo, all, every}
+use Rattle.table.specs.Table.{total}
 use Rattle.table.specs.Whole.{roundsTo}
-use Rattle.stored.specs.declared.Sizes.{Sizes}
 use Rattle.stored.specs.Form.{number, bodyAt, planLength, formOf, rowsOf, columnsOf, arraysOf, zeroOf, fieldOf, offsetOf, denominatorOf, countOf}
 use Rattle.stored.specs.Open.{heldTo}
-
--- the sizes that the head says
-abbrev pub sizesOf : List ℕ → Sizes
-sizesOf b = record { rows = rowsOf b; columns = columnsOf b; arrays = arraysOf b; denominator = denominatorOf b }
-
--- every number below n passes a test
-abbrev pub every : ℕ → (ℕ → Bool) → Bool
-every n test = all test (tabulate n (λ k. k))
-
--- form, zero field and bounds
-unfoldable pub headRight : List ℕ → Bool
-headRight b =
-    eqb (formOf b) 1 && eqb (zeroOf b) 0
-    && upTo maxRows (rowsOf b) && upTo maxColumns (columnsOf b) && upTo maxArrays (arraysOf b) && upTo maxDenominator (denominatorOf b)
 
 -- each contents entry points to its body
 abbrev pub offsetsRight : List ℕ → ℕ → ℕ → ℕ → Bool

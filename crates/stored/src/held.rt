@@ -1,8 +1,9 @@
 // The entries that each array of a plan is held to.
 ghost use mathlib.Core.Path.{_≡_};
 ghost use Prim.Native.Nat.{_*_, _≤_};
+ghost use Rattle.table.specs.Lists.{every};
 ghost use Rattle.table.specs.Whole.{roundsTo};
-ghost use Rattle.stored.specs.Parts.{every, entryHeld, heldIn, Inside, Lines, Divides, Bodies};
+ghost use Rattle.stored.specs.Parts.{entryHeld, heldIn, Inside, Lines, Divides, Bodies};
 use crate::body::cell_sum;
 use crate::body::count_sum;
 

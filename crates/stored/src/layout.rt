@@ -2,8 +2,8 @@
 ghost use mathlib.Core.Path.{_≡_};
 ghost use Prim.Native.Nat.{_+_, _*_, _≤_};
 ghost use lib.ListN.{length};
-ghost use Rattle.stored.specs.Form.{planLength, fieldOf, offsetOf, laidOut};
-ghost use Rattle.stored.specs.Parts.{sizesOf, headRight, offsetsRight, Contents};
+ghost use Rattle.stored.specs.Form.{planLength, fieldOf, offsetOf, sizesOf, headRight, laidOut};
+ghost use Rattle.stored.specs.Parts.{offsetsRight, Contents};
 use crate::Sizes;
 use crate::bytes::four;
 use crate::bytes::one;

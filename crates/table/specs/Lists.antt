@@ -33,3 +33,7 @@ least (x ∷ y ∷ l) = min x (least (y ∷ l))
 unfoldable pub all {ℓ} : {A : Type ℓ} → (A → Bool) → List A → Bool
 all f [] = true
 all f (x ∷ l) = f x && all f l
+
+-- every number below n passes a test
+abbrev pub every : ℕ → (ℕ → Bool) → Bool
+every n test = all test (tabulate n (λ k. k))

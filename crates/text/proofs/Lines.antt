@@ -13,8 +13,8 @@ use lib.Seq.{take-length}
 use Rattle.table.specs.Lists.{tabulate, joinTo}
 use Rattle.table.proofs.Lists.{length-tabulate, getD-tabulate, map-tabulate}
 use Rattle.stored.specs.declared.Sizes.{Sizes}
-use Rattle.stored.specs.Form.{rowsOf, columnsOf, denominatorOf, arraysOf, fieldOf, offsetOf, countOf, laidOut, decode}
-use Rattle.stored.specs.Parts.{sizesOf, countAt, Stored}
+use Rattle.stored.specs.Form.{rowsOf, columnsOf, denominatorOf, arraysOf, fieldOf, offsetOf, sizesOf, countOf, laidOut, decode}
+use Rattle.stored.specs.Parts.{countAt, Stored}
 use Rattle.stored.proofs.Layouts.{laid}
 use Rattle.stored.proofs.Contents.{stored-by}
 use Rattle.text.specs.Text.{decimal, spaced, line, lines, lineNumbers, listing, refusedWord, refused}
