@@ -26,7 +26,7 @@ use Rattle.stored.proofs.Every.{and-assoc, all-ext, Passed, passed-none
 use Rattle.stored.proofs.Layouts.{cells-few}
 use Rattle.stored.proofs.Entries.{sum-more}
 
--- the cells before i are within the bound
+-- cell i is within the bound
 abbrev pub cellFits : List ℕ → ℕ → ℕ → Bool
 cellFits t d i = leb (cellIn t i) (1000 * d)
 
@@ -114,7 +114,7 @@ module _ {k n i : ℕ} {b : List ℕ} (s : Stored k n b) (h : i < n) where
   pub reached-by : Reached k i b
   reached-by = record { contents = s .contents; counts = λ j l. omega (arith, s .counts j l) }
 
--- the cell at each place before i is met
+-- the weighted counts at place i add up to the cell
 abbrev pub cellMet : List ℕ → ℕ → ℕ → Bool
 cellMet b k i = eqb (weightedIn b k i) (cellOf b i)
 

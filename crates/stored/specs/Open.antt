@@ -53,6 +53,7 @@ openAnswer b =
     (cond (consistent (decode b)) (opened.Plan (sizesOf b)) (opened.Refused Content))
     (opened.Refused Layout)
 
+-- the number that each answer stands for: 0 for a plan that opens, else the refusal's
 abbrev pub openedNumber : Opened → ℕ
 openedNumber (opened.Plan s) = 0
 openedNumber (opened.Refused x) = numberOf x

@@ -1,4 +1,5 @@
--- What inner functions are held to: parts of the definitions of Form and Open. No public contract cites them. Assumes nothing.
+-- What inner functions are held to: parts of the definitions of Form and Open. Only contracts between the crates and inside this one cite them; the six calls
+-- and the view's readers do not. Assumes nothing.
 use mathlib.Core.Path.{_≡_}
 use mathlib.Core.Bool.{Bool, _&&_}
 use mathlib.Core.List.{List}

@@ -22,7 +22,8 @@ pub record Plan : Type 0 where
   pub cells : List ℕ
   pub arrays : List Weighted
 
--- "Draw number d, from 0 to D − 1, belongs to the array k for which the weights before k add up to at most d, and with k to more than d."
+-- "Draw number d, from 0 to D − 1, belongs to the array k for which the weights before k add up to at most d, and with k to more than d."; an empty list where d
+-- is not below the sum
 unfoldable pub arrayFor : List Weighted → ℕ → List ℕ
 arrayFor [] d = []
 arrayFor (a ∷ l) d = cond (ltb d (a .weight)) (a .counts) (arrayFor l (d - a .weight))

@@ -37,11 +37,12 @@ heldPlan r c d g k weights counts = record {
   arrays = tabulate k (heldArray (r * c) weights counts);
 }
 
--- entry i of the contents
+-- the number beside the offset in entry i
 abbrev pub heldField : ℕ → List ℕ → ℕ → ℕ
 heldField d weights zero = d
 heldField d weights (suc i) = getD weights i 0
 
+-- entry i of the contents
 abbrev pub heldEntry : ℕ → ℕ → ℕ → ℕ → List ℕ → ℕ → List ℕ
 heldEntry r c d k weights i = entry (heldField d weights i) (bodyAt r c k i)
 

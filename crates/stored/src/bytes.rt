@@ -4,6 +4,7 @@ ghost use Prim.Native.Nat.{_+_, _≤_};
 ghost use lib.ListN.{length};
 ghost use Rattle.stored.specs.Form.{number};
 
+// The byte at a place.
 pub fn one(s: &[u8], at: usize) -> u8
     requires { ⌜ at + 1 ≤ length (now s) ⌝ }
     ensures { λ r. ⌜ r ≡ number 1 (now (s .entry)) at ⌝ }
@@ -11,6 +12,7 @@ pub fn one(s: &[u8], at: usize) -> u8
     s[at]
 }
 
+// The number in the two bytes from a place on.
 pub fn two(s: &[u8], at: usize) -> u16
     requires { ⌜ at + 2 ≤ length (now s) ⌝ }
     ensures { λ r. ⌜ r ≡ number 2 (now (s .entry)) at ⌝ }
@@ -20,6 +22,7 @@ pub fn two(s: &[u8], at: usize) -> u16
     low + 256 * high
 }
 
+// The number in the four bytes from a place on.
 pub fn four(s: &[u8], at: usize) -> u32
     requires { ⌜ at + 4 ≤ length (now s) ⌝ }
     ensures { λ r. ⌜ r ≡ number 4 (now (s .entry)) at ⌝ }

@@ -63,6 +63,7 @@ fn array_held(plan: &[u8], s: Sizes, k: usize) -> bool
     )
 }
 
+// Whether each array is held to the table's entries.
 fn arrays_held(plan: &[u8], s: Sizes) -> bool
     requires { ⌜ Laid (s .rows) (s .columns) (s .arrays) (s .denominator) (now plan) ⌝ }
     ensures { λ r. ⌜ r ≡ every (s .arrays) (arrayHeld (now (plan .entry)) (s .rows) (s .columns) (s .denominator)) ⌝ }
@@ -87,7 +88,7 @@ fn weighted(plan: &[u8], arrays: usize, i: usize) -> u64
     sum
 }
 
-// Whether they add up to the cell, for each cell.
+// Whether for each cell the counts times the weights add up to it.
 fn cells_weighted(plan: &[u8], cells: usize, arrays: usize) -> bool
     requires { ⌜ Stored arrays cells (now plan) ⌝ }
     ensures { λ r. ⌜ r ≡ every cells (λ i. eqb (weightedIn (now (plan .entry)) arrays i) (cellOf (now (plan .entry)) i)) ⌝ }

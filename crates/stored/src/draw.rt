@@ -16,7 +16,7 @@ use table::Answer;
 use table::Refusal;
 
 // The place, counted from 0, of the array that a draw number belongs to.
-pub fn array_of(plan: &[u8], arrays: usize, number: u32) -> usize
+fn array_of(plan: &[u8], arrays: usize, number: u32) -> usize
     requires { ⌜ Contents arrays (now plan) × (number < sumTo arrays (weightOf (now plan))) ⌝ }
     ensures { λ r. ⌜ Belongs (now (plan .entry)) arrays number r ⌝ }
 {
@@ -32,7 +32,7 @@ pub fn array_of(plan: &[u8], arrays: usize, number: u32) -> usize
 }
 
 // Writes an array out of its body, `cells` counts.
-pub fn write_counts(body: &[u8], cells: usize, counts: &mut [u16])
+fn write_counts(body: &[u8], cells: usize, counts: &mut [u16])
     requires { ⌜ (2 * cells ≤ length (now body)) × (cells ≤ length (now counts)) ⌝ }
     ensures { λ _. ⌜ now (counts .exit) ≡ written (tabulate cells (countIn (now (body .entry)))) (now (counts .entry)) ⌝ }
 {
@@ -53,8 +53,8 @@ pub fn write_array(plan: &[u8], s: Sizes, number: u32, counts: &mut [u16])
 
 // Writes the array of a draw number, or returns the lowest refusal that applies.
 pub fn draw(plan: &[u8], number: u32, counts: &mut [u16]) -> Answer
-    ensures { λ r. ⌜ (r ≡ drawAnswer (now (plan .entry)) number (length (now (counts .entry))))
-        × (now (counts .exit) ≡ after r (written (drawnArray (now (plan .entry)) number) (now (counts .entry))) (now (counts .entry))) ⌝ }
+    ensures answer { λ r. ⌜ r ≡ drawAnswer (now (plan .entry)) number (length (now (counts .entry))) ⌝ }
+    ensures buffer { λ r. ⌜ now (counts .exit) ≡ after r (written (drawnArray (now (plan .entry)) number) (now (counts .entry))) (now (counts .entry)) ⌝ }
 {
     let opened = open(plan);
     match opened {

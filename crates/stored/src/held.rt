@@ -36,7 +36,7 @@ fn entry_held(
     rounds(denominator as u64, entry, count)
 }
 
-// Whether `lines` entries do, whose starts are `stride` apart.
+// Whether each of `lines` entries of an array, whose starts are `stride` apart, rounds the table's.
 fn lines_held(
     table: &[u8],
     body: &[u8],

@@ -30,7 +30,8 @@ pub enum Reading {
     Missing,
 }
 
-pub fn summarize(plan: &[u8]) -> Summary
+// What opening the bytes finds.
+fn summarize(plan: &[u8]) -> Summary
     ensures { λ r. ⌜ r ≡ summaryOf (openAnswer (now (plan .entry))) ⌝ }
 {
     let opened = open(plan);
@@ -85,7 +86,7 @@ fn has_cell(s: Summary, p: usize, q: usize) -> bool
 }
 
 // The weight of array k.
-pub fn weight_in(plan: &[u8], s: Summary, k: usize) -> Reading
+fn weight_in(plan: &[u8], s: Summary, k: usize) -> Reading
     ensures { λ r. ⌜ r ≡ weightAnswer (now (plan .entry)) s k ⌝ }
 {
     if !has_array(plan, s, k) {
@@ -95,7 +96,7 @@ pub fn weight_in(plan: &[u8], s: Summary, k: usize) -> Reading
 }
 
 // The count of array k in row p and column q.
-pub fn count_in(plan: &[u8], s: Summary, k: usize, p: usize, q: usize) -> Reading
+fn count_in(plan: &[u8], s: Summary, k: usize, p: usize, q: usize) -> Reading
     ensures { λ r. ⌜ r ≡ countAnswer (now (plan .entry)) s k p q ⌝ }
 {
     if !has_array(plan, s, k) {
@@ -116,6 +117,7 @@ pub fn count_in(plan: &[u8], s: Summary, k: usize, p: usize, q: usize) -> Readin
     Reading::Value(body::count(&plan[at..], i) as u32)
 }
 
+// The view over some bytes, with what opening them finds.
 fn over<'a>(bytes: &'a [u8], found: Summary) -> View<'a>
     ensures { λ r. ⌜ (r .bytes ≡ bytes .entry) × (r .found ≡ found) ⌝ }
 {

@@ -7,7 +7,7 @@ ghost use Rattle.table.specs.Answer.{written};
 ghost use Rattle.stored.specs.Form.{bytes, bodyAt, head, entry, encode};
 ghost use Rattle.stored.specs.Write.{heldPlan, heldField, heldEntry, numbers, putAt, Bounded, Writable};
 
-// Puts a number at a place, low byte first.
+// Puts a byte at a place.
 fn put1(x: u8, at: usize, plan: &mut [u8])
     requires { ⌜ at + 1 ≤ length (now plan) ⌝ }
     ensures { λ _. ⌜ now (plan .exit) ≡ putAt (now (plan .entry)) at (bytes 1 x) ⌝ }
@@ -15,6 +15,7 @@ fn put1(x: u8, at: usize, plan: &mut [u8])
     plan[at] = x;
 }
 
+// Puts a number at a place in two bytes, low byte first.
 fn put2(x: u16, at: usize, plan: &mut [u8])
     requires { ⌜ at + 2 ≤ length (now plan) ⌝ }
     ensures { λ _. ⌜ now (plan .exit) ≡ putAt (now (plan .entry)) at (bytes 2 x) ⌝ }
@@ -23,6 +24,7 @@ fn put2(x: u16, at: usize, plan: &mut [u8])
     put1((x / 256) as u8, at + 1, plan);
 }
 
+// Puts a number at a place in four bytes, low byte first.
 fn put4(x: u32, at: usize, plan: &mut [u8])
     requires { ⌜ at + 4 ≤ length (now plan) ⌝ }
     ensures { λ _. ⌜ now (plan .exit) ≡ putAt (now (plan .entry)) at (bytes 4 x) ⌝ }
@@ -31,6 +33,7 @@ fn put4(x: u32, at: usize, plan: &mut [u8])
     put2((x / 65536) as u16, at + 2, plan);
 }
 
+// Puts the head at the start.
 fn head(rows: usize, columns: usize, arrays: usize, plan: &mut [u8])
     requires { ⌜ Bounded rows columns arrays × (8 ≤ length (now plan)) ⌝ }
     ensures { λ _. ⌜ now (plan .exit) ≡ putAt (now (plan .entry)) 0 (head rows columns arrays) ⌝ }
@@ -66,6 +69,7 @@ fn field(denominator: u32, weights: &[u32], i: usize) -> u32
     weights[i - 1]
 }
 
+// Puts an entry of the contents at a place.
 fn entry(field: u32, offset: u32, at: usize, plan: &mut [u8])
     requires { ⌜ at + 8 ≤ length (now plan) ⌝ }
     ensures { λ _. ⌜ now (plan .exit) ≡ putAt (now (plan .entry)) at (entry field offset) ⌝ }
@@ -74,6 +78,7 @@ fn entry(field: u32, offset: u32, at: usize, plan: &mut [u8])
     put4(offset, at + 4, plan);
 }
 
+// Puts the contents after the head.
 fn contents(
     rows: usize,
     columns: usize,
