@@ -21,8 +21,8 @@ use Rattle.rounding.proofs.Roundings.{shape-of, rounding-length}
 use Rattle.stored.specs.Plan.{Weighted, arrayAt}
 use Rattle.stored.specs.Form.{planLength, decode}
 use Rattle.stored.specs.Open.{held, weighted, consistent, opens}
-use Rattle.stored.specs.Write.{WellShaped, heldArray, heldPlan, Bounded}
-use Rattle.stored.proofs.Decodings.{tabulate-getD, decode-encode, encode-laid-out}
+use Rattle.stored.specs.Write.{heldArray, heldPlan, Bounded}
+use Rattle.stored.proofs.Decodings.{WellShaped, tabulate-getD, decode-encode, encode-laid-out}
 use Rattle.stored.proofs.Encodings.{encode-length}
 use Rattle.stored.proofs.Lengths.{plan-least, plan-most}
 use Rattle.plan.specs.Rounds.{roundsFrom, planOf}

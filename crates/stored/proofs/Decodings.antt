@@ -11,10 +11,11 @@ use lib.Dec.{eqb}
 use borrow.Author.Tests.{le-leb, eq-eqb}
 use Rattle.table.specs.Lists.{tabulate}
 use Rattle.table.proofs.Lists.{length-tabulate, getD-tabulate, all-tabulate}
-use Rattle.stored.specs.Plan.{Plan, arrayAt}
+use Rattle.table.specs.Table.{maxDenominator, maxArrays}
+use Rattle.table.specs.Shape.{Shape}
+use Rattle.stored.specs.Plan.{Weighted, Plan, arrayAt}
 use Rattle.stored.specs.Form.{bytes, number, head, entry, bodyAt, fieldIn, encode, decode, headRight, laidOut}
 use Rattle.stored.specs.Form.{formOf, rowsOf, columnsOf, arraysOf, zeroOf, fieldOf, offsetOf, denominatorOf, cellOf, countOf}
-use Rattle.stored.specs.Write.{WellShaped}
 use Rattle.stored.proofs.Joins.{holds-left, holds-right}
 use Rattle.stored.proofs.Lengths.{offset-fits}
 use Rattle.stored.proofs.Encodings.{length-bytes, number-held, encode-length, holds-entry, holds-cell, holds-count}
@@ -25,6 +26,22 @@ pub tabulate-getD {ℓ} : {A : Type ℓ} (l : List A) (n : ℕ) (d : A) (f : ℕ
 tabulate-getD l n d f e h =
     ext-getD d (tabulate n f) l (length-tabulate n f ∙ sym e)
     (λ i p. let q : i < n = omega (arith, length-tabulate n f) in getD-tabulate n f i d q ∙ h i q)
+
+-- an array of n counts whose numbers fit their bytes
+pub record FitArray (n : ℕ) (a : Weighted) : Type 0 where
+  pub weight : a .weight < 2 ^ 32
+  pub counts : length (a .counts) ≡ n
+  pub count : (i : ℕ) → i < n → getD (a .counts) i 0 < 2 ^ 16
+
+-- a plan within the bounds whose numbers fit their bytes
+pub record WellShaped (p : Plan) : Type 0 where
+  pub shape : Shape (p .rows) (p .columns) (p .cells)
+  pub some-denominator : 1 ≤ p .denominator
+  pub denominator : p .denominator ≤ maxDenominator
+  pub cell : (i : ℕ) → i < p .rows * p .columns → getD (p .cells) i 0 < 2 ^ 32
+  pub some-arrays : 1 ≤ length (p .arrays)
+  pub arrays : length (p .arrays) ≤ maxArrays
+  pub array : (k : ℕ) → k < length (p .arrays) → FitArray (p .rows * p .columns) (arrayAt (p .arrays) k)
 
 module _ {p : Plan} (w : WellShaped p) where
   abbrev r : ℕ

@@ -1,4 +1,4 @@
--- Laws on writing a plan that a caller holds in plain arrays. Assumes nothing.
+-- Laws on writing a plan that a caller holds in buffers. Assumes nothing.
 use mathlib.Core.Path.{_≡_, refl, sym, ap, _∙_}
 use mathlib.Core.List.{List, _++_}
 use Prim.Native.Nat.{ℕ, zero, suc, _+_, _-_, _*_, _<_, _≤_}
@@ -26,7 +26,7 @@ pub entries-more : (r c d k : ℕ) (weights : List ℕ) (old : List ℕ) (i end 
 entries-more r c d k weights old i end mid new p field offset f o e l q h =
     put-more 8 (k + 1) old 8 _ i mid new (λ j. length-entry _ _) p (rw (f, o) at e) (omega arith) h
 
--- the bytes of a plan in plain arrays
+-- the bytes of a plan in buffers
 module _ (r c d : ℕ) (g : List ℕ) (k : ℕ) (weights counts : List ℕ) where
   abbrev held : ℕ → Weighted
   held = heldArray (r * c) weights counts

@@ -7,7 +7,7 @@ use Prim.Native.Nat.{ℕ, suc, _+_, _*_, _<_, _≤_}
 use lib.ListN.{length, drop}
 use lib.Dec.{leb, eqb}
 use Rattle.table.specs.Lists.{tabulate, sumTo, all, every}
-use Rattle.table.specs.Table.{total}
+use Rattle.table.specs.Table.{maxRows, maxColumns, maxArrays, maxDenominator, total}
 use Rattle.table.specs.Whole.{roundsTo}
 use Rattle.stored.specs.Form.{number, bodyAt, planLength, formOf, rowsOf, columnsOf, arraysOf, zeroOf, fieldOf, offsetOf, denominatorOf, countOf}
 use Rattle.stored.specs.Open.{heldTo}
@@ -25,13 +25,13 @@ pub record Laid (r c k d : ℕ) (b : List ℕ) : Type 0 where
   pub arrays-are : k ≡ arraysOf b
   pub denominator-is : d ≡ denominatorOf b
   pub some-rows : 1 ≤ r
-  pub rows : r ≤ 12
+  pub rows : r ≤ maxRows
   pub some-columns : 1 ≤ c
-  pub columns : c ≤ 12
+  pub columns : c ≤ maxColumns
   pub some-arrays : 1 ≤ k
-  pub arrays : k ≤ 170
+  pub arrays : k ≤ maxArrays
   pub some-denominator : 1 ≤ d
-  pub denominator : d ≤ 65535
+  pub denominator : d ≤ maxDenominator
   pub len : length b ≡ planLength r c k
   pub offsets : (i : ℕ) → i ≤ k → offsetOf b i ≡ bodyAt r c k i
 
@@ -73,20 +73,20 @@ pub record Lines (lines stride step count : ℕ) (t a : List ℕ) : Type 0 where
 -- a denominator within its bounds
 pub record Divides (d : ℕ) : Type 0 where
   pub some : 1 ≤ d
-  pub small : d ≤ 65535
+  pub small : d ≤ maxDenominator
 
 -- the bodies of a table and an array, r by c
 pub record Bodies (r c : ℕ) (t a : List ℕ) : Type 0 where
   pub some-rows : 1 ≤ r
-  pub rows : r ≤ 12
+  pub rows : r ≤ maxRows
   pub some-columns : 1 ≤ c
-  pub columns : c ≤ 12
+  pub columns : c ≤ maxColumns
   pub cells : 4 * (r * c) ≤ length t
   pub counts : 2 * (r * c) ≤ length a
 
 -- k entries after the first stand in the contents
 pub record Contents (k : ℕ) (b : List ℕ) : Type 0 where
-  pub arrays : k ≤ 170
+  pub arrays : k ≤ maxArrays
   pub room : 16 + 8 * k ≤ length b
 
 -- the bodies of a table of n cells and of k arrays stand where the contents point

@@ -2,6 +2,7 @@
 ghost use mathlib.Core.Path.{_≡_};
 ghost use Prim.Native.Nat.{_+_, _*_, _≤_};
 ghost use lib.ListN.{length};
+ghost use Rattle.table.specs.Table.{maxRows, maxColumns, maxArrays};
 ghost use Rattle.stored.specs.Form.{planLength, fieldOf, offsetOf, sizesOf, headRight, laidOut};
 ghost use Rattle.stored.specs.Parts.{offsetsRight, Contents};
 use crate::Sizes;
@@ -42,7 +43,7 @@ pub fn offset(plan: &[u8], k: usize) -> usize
 
 // The length of a plan of these sizes.
 pub fn plan_length(rows: usize, columns: usize, arrays: usize) -> usize
-    requires { ⌜ (rows ≤ 12) × (columns ≤ 12) × (arrays ≤ 170) ⌝ }
+    requires { ⌜ (rows ≤ maxRows) × (columns ≤ maxColumns) × (arrays ≤ maxArrays) ⌝ }
     ensures { λ r. ⌜ r ≡ planLength rows columns arrays ⌝ }
 {
     let cells = rows * columns;
@@ -74,7 +75,7 @@ fn head_right(plan: &[u8]) -> bool
 
 // Whether each contents entry points to its body.
 fn offsets_right(plan: &[u8], rows: usize, columns: usize, arrays: usize) -> bool
-    requires { ⌜ (rows ≤ 12) × (columns ≤ 12) × Contents arrays (now plan) ⌝ }
+    requires { ⌜ (rows ≤ maxRows) × (columns ≤ maxColumns) × Contents arrays (now plan) ⌝ }
     ensures { λ r. ⌜ r ≡ offsetsRight (now (plan .entry)) rows columns arrays ⌝ }
 {
     let cells = rows * columns;
