@@ -1,5 +1,5 @@
 -- Laws on the bits of a record as the code reads, counts and sets them. Assumes nothing.
-use mathlib.Core.Path.{_≡_, refl, ap}
+use mathlib.Core.Path.{_≡_, ap}
 use mathlib.Core.List.{List}
 use Prim.Native.Nat.{ℕ, _+_, _*_, _/_, _%_, _^_, _<_, _≤_}
 use native.Mathlib.Omega.{arith}
@@ -7,8 +7,7 @@ use lib.ListN.{getD, set}
 use lib.Pow.{pow-mono}
 use mir.Val.{Fits}
 use mir.Syntax.{w8, w32}
-use Rattle.table.specs.Lists.{sumTo}
-use Rattle.stored.proofs.Entries.{sum-more}
+use Rattle.table.proofs.SumLoops.{Summed, summed-more, summed-all}
 use Rattle.campaign.specs.Record.{bitOf}
 use Rattle.campaign.specs.Parts.{bitsSet}
 use Rattle.campaign.proofs.Bits.{bit-le, byte-set}
@@ -25,23 +24,15 @@ module _ (b : List ℕ) (d : ℕ) where
   set-is = ap (λ (x : ℕ). set b (d / 8) (getD b (d / 8) 0 + x)) (power d)
 
 -- s is how many of j bits are set
-pub record Set (bits : List ℕ) (from j s : ℕ) : Type 0 where
-  pub is : s ≡ bitsSet bits from j
-  pub small : s ≤ j
+abbrev pub Set : List ℕ → ℕ → ℕ → ℕ → Type 0
+Set bits from j s = Summed (λ i. bitOf bits (from + i)) 2 j s
 
-pub set-none : (bits : List ℕ) (from : ℕ) → Set bits from 0 0
-unfolding sumTo
-set-none bits from = record { is = refl; small = omega arith }
-
-module _ {bits : List ℕ} {from j s : ℕ} (p : Set bits from j s) where
+module _ (bits : List ℕ) (from : ℕ) {j s : ℕ} (p : Set bits from j s) where
   pub set-more : (x : ℕ) → x ≡ bitOf bits (from + j) → Set bits from (j + 1) (s + x)
-  set-more x e = record {
-    is = omega (arith, p .is, sum-more (λ i. bitOf bits (from + i)) j);
-    small = omega (arith, p .small, bit-le bits (from + j));
-  }
+  set-more x e = summed-more p x e (omega (arith, bit-le bits (from + j)))
 
   pub set-fits-more : (x : ℕ) {n : ℕ} → x ≡ bitOf bits (from + j) → j < n → n ≤ 65535 → Fits w32 (s + x)
   set-fits-more x e h l = record { fits = omega (arith, p .small, bit-le bits (from + j)) }
 
   pub set-all : {n : ℕ} → j ≤ n → n ≤ j → s ≡ bitsSet bits from n
-  set-all {n} h l = let e : j ≡ n = omega arith in rw e at (p .is)
+  set-all h l = summed-all p h l .0

@@ -3,7 +3,7 @@ use mathlib.Core.Path.{_≡_, refl, sym, ap, ap₂, _∙_}
 use mathlib.Core.Bool.{Bool, true, false, _&&_}
 use mathlib.Core.List.{List}
 use Prim.Native.Nat.{ℕ, zero, suc, _+_, _-_, _*_, _/_, _<_, _≤_}
-use native.Mathlib.Nat.{mul-le-mul, mul-comm}
+use native.Mathlib.Nat.{mul-comm}
 use native.Mathlib.Decide.{ℕ-discrete}
 use native.Mathlib.Omega.{arith}
 use lib.ListN.{length, getD, set, drop, replicate, length-replicate, length-set}
@@ -17,11 +17,11 @@ use Rattle.table.proofs.Sums.{sum-ext, sum-zero, sum-term, sum-mul, sum-add-ran
 use Rattle.stored.specs.declared.Sizes.{Sizes}
 use Rattle.stored.specs.Form.{rowsOf, columnsOf, arraysOf, offsetOf, decode}
 use Rattle.stored.specs.Open.{consistent, drawnArray}
-use Rattle.stored.specs.Parts.{weightOf, countAt, countIn, Laid, Stored, Reached}
+use Rattle.stored.specs.Parts.{weightOf, countAt, countIn, Laid, Stored}
 use Rattle.stored.proofs.Numbers.{number-drop}
 use Rattle.stored.proofs.Every.{Passed, passed-more, every-not, every-intro, every-elim, all-ext}
-use Rattle.stored.proofs.Entries.{sum-more}
-use Rattle.stored.proofs.Contents.{stored-by}
+use Rattle.table.proofs.SumLoops.{sum-more, Summed, summed-more, summed-all}
+use Rattle.stored.proofs.Contents.{product-small, stored-by}
 use Rattle.stored.proofs.Opening.{is-open, opened-laid}
 use Rattle.stored.proofs.Drawing.{drawn-is, weights-add-up}
 use Rattle.campaign.specs.Record.{bitOf, bitBytes, spareClear, takenSum, fits}
@@ -66,35 +66,17 @@ module _ {b bits taken : List ℕ} {k at n w : ℕ} (p : Along b bits taken k at
 pub along-all : {b bits taken : List ℕ} {k at n : ℕ} → Along b bits taken k at → k ≤ n → n ≤ k → Counted n b bits taken
 along-all {k = k} {n = n} p h l = let e : k ≡ n = omega arith in rw e at (p .counted)
 
--- s is the sum of the first k products at place i
-pub record Tallied (b taken : List ℕ) (i k s : ℕ) : Type 0 where
-  pub is : s ≡ tallyIn b taken k i
-  pub small : s ≤ k * 281474976710656
+-- s is the sum of the first k products of taken numbers and count at place i
+abbrev pub Tallied : List ℕ → List ℕ → ℕ → ℕ → ℕ → Type 0
+Tallied b taken i k s = Summed (λ j. getD taken j 0 * countAt b j i) 281474976710657 k s
 
-pub tallied-none : (b taken : List ℕ) (i : ℕ) → Tallied b taken i 0 0
-unfolding sumTo
-tallied-none b taken i = record { is = refl; small = omega arith }
+pub tallied-more : (b taken : List ℕ) (i : ℕ) {w x k s : ℕ} → w < 4294967296 → x < 65536 → Tallied b taken i k s → w ≡ getD taken k 0 → x ≡ countAt b k i → Tallied b taken i (k + 1) (s + w * x)
+tallied-more b taken i {w} {x} h l m e f = summed-more m (w * x) (ap₂ _*_ e f) (product-small h l)
 
-module _ {w x : ℕ} (h : w < 4294967296) (l : x < 65536) where
-  product : w * x ≤ 281474976710656
-  product = let a : w ≤ 4294967296 = omega arith in let b : x ≤ 65536 = omega arith in mul-le-mul a b
+pub tallied-all : (b taken : List ℕ) (i : ℕ) {k s n : ℕ} → Tallied b taken i k s → k ≤ n → n ≤ k → s ≡ tallyIn b taken n i
+tallied-all b taken i m h l = summed-all m h l .0
 
-  module _ {b taken : List ℕ} {i k s : ℕ} (m : Tallied b taken i k s) where
-    pub tallied-fits : {n : ℕ} → Reached n i b → k < n → Fits w64 (s + w * x)
-    tallied-fits r q = record { fits = omega (arith, m .small, product, r .contents .arrays) }
-
-    pub tallied-more : w ≡ getD taken k 0 → x ≡ countAt b k i → Tallied b taken i (k + 1) (s + w * x)
-    tallied-more e f = record {
-      is =
-          let p : w * x ≡ getD taken k 0 * countAt b k i = cc in
-          omega (arith, m .is, sum-more (λ j. getD taken j 0 * countAt b j i) k);
-      small = omega (arith, m .small, product);
-    }
-
-pub tallied-all : {b taken : List ℕ} {i k s n : ℕ} → Tallied b taken i k s → k ≤ n → n ≤ k → s ≡ tallyIn b taken n i
-tallied-all {b} {taken} {i} {k} {s} {n} m h l = let e : k ≡ n = omega arith in rw e at (m .is)
-
--- the tally at each place before i is right
+-- the tally at place i is right
 abbrev pub placeRight : List ℕ → List ℕ → List ℕ → ℕ → ℕ → Bool
 placeRight b taken tally k i = eqb (getD tally i 0) (tallyIn b taken k i)
 

@@ -4,7 +4,6 @@ use mathlib.Core.Bool.{cond}
 use mathlib.Core.List.{List}
 use Prim.Native.Nat.{ℕ, _+_, _-_, _*_, _/_, _%_, _≤_, _<_}
 use native.Mathlib.Nat.{add-mul, mul-le-mul-right, le-of-lt}
-use native.Mathlib.Numerals.{add-one}
 use native.Mathlib.Omega.{arith}
 use lib.ListN.{length, getD, set, replicate, length-set, length-replicate}
 use lib.Seq.{getD-set-same, getD-set-other}
@@ -12,7 +11,7 @@ use lib.Dec.{eqb}
 use mir.Val.{Fits}
 use mir.Syntax.{w64}
 use borrow.Author.Tests.{eq-eqb, ne-eqb}
-use Rattle.table.specs.Lists.{sumTo}
+use Rattle.table.proofs.SumLoops.{Added, added-more, added-all}
 use Rattle.table.specs.Whole.{down, gap, whole}
 use Rattle.table.proofs.Lists.{each-more}
 use Rattle.table.specs.Table.{maxEntry}
@@ -92,31 +91,11 @@ module _ {f cap b n : List ℕ} {k : ℕ} (c : CountedTo f cap b n k) where
   pub counted-all : 169 ≤ k → Counted f cap b n
   counted-all h = record { len = c .len; is = λ i l. c .is i (omega arith) }
 
--- a sum along a line: x is what stands at each of its places
-pub record LineTo (x : ℕ → ℕ) (start step k s at : ℕ) : Type 0 where
-  pub is : s ≡ sumTo k (λ i. x (start + i * step))
-  pub small : s ≤ k * 9437040001
-  pub next : at ≡ start + k * step
-
-pub line-none : (x : ℕ → ℕ) (start step : ℕ) → LineTo x start step 0 0 start
-unfolding sumTo
-line-none x start step = record { is = refl; small = omega arith; next = omega arith }
+-- a sum along a line: x is what stands at each of its places, an entry rounded up at most
+abbrev pub LineTo : (ℕ → ℕ) → ℕ → ℕ → ℕ → ℕ → ℕ → Type 0
+LineTo x start step k s at = Added x start step 9437040002 k s at
 
 module _ {x : ℕ → ℕ} {start step k s at : ℕ} (l : LineTo x start step k s at) where
-  pub line-more : (v : ℕ) → v ≡ x at → v ≤ 9437040001 → LineTo x start step (k + 1) (s + v) (at + step)
-  unfolding sumTo
-  line-more v e h = record {
-    is =
-        let here : x at ≡ x (start + k * step) = ap x (l .next) in
-        let one : sumTo (k + 1) (λ i. x (start + i * step)) ≡ sumTo k (λ i. x (start + i * step)) + x (start + k * step) = ap (λ (n : ℕ). sumTo n (λ i. x (start + i * step))) (add-one k) in
-        omega (arith, l .is);
-    small = omega (arith, l .small);
-    next = omega (arith, l .next, add-mul k 1 step);
-  }
-
-  pub line-all : k ≡ 12 → s ≡ sumTo 12 (λ i. x (start + i * step))
-  line-all h = rw h at (l .is)
-
   module _ {f cap : List ℕ} (a : LineFits f cap start step) (h : k < 12) where
     pub line-inside : at < 169
     line-inside = omega (arith, l .next, a .inside, mul-le-mul-right step (le-of-lt h))
@@ -139,19 +118,19 @@ module _ {x : ℕ → ℕ} {start step k s at : ℕ} (l : LineTo x start step k 
 -- the two kinds of sums
 module _ {f cap : List ℕ} {start step k s at : ℕ} (a : LineFits f cap start step) (h : k < 12) where
   pub wholes-more : LineTo (λ i. getD f i 0) start step k s at → LineTo (λ i. getD f i 0) start step (k + 1) (s + getD f at 0) (at + step)
-  wholes-more l = line-more l (getD f at 0) refl (omega (arith, a .small at))
+  wholes-more l = added-more l (getD f at 0) refl (omega (arith, a .small at))
 
   pub ups-more : (v : ℕ) → v ≡ getD cap at 0 → LineTo (λ i. getD f i 0 + getD cap i 0) start step k s at
       → LineTo (λ i. getD f i 0 + getD cap i 0) start step (k + 1) (s + (getD f at 0 + v)) (at + step)
-  ups-more v e l = line-more l (getD f at 0 + v) (ap (λ (x : ℕ). getD f at 0 + x) e) (omega (arith, a .small at, a .cap-small at (line-inside l a h)))
+  ups-more v e l = added-more l (getD f at 0 + v) (ap (λ (x : ℕ). getD f at 0 + x) e) (omega (arith, a .small at, a .cap-small at (line-inside l a h)))
 
 pub wholes-all : (f : List ℕ) {start step k s at : ℕ} → LineTo (λ i. getD f i 0) start step k s at → k ≤ 12 → 12 ≤ k → s ≡ wholes f start step
 unfolding wholes
-wholes-all f l h g = line-all l (omega arith)
+wholes-all f l h g = added-all l h g .0
 
 pub ups-all : (f cap : List ℕ) {start step k s at : ℕ} → LineTo (λ i. getD f i 0 + getD cap i 0) start step k s at → k ≤ 12 → 12 ≤ k → s ≡ ups f cap start step
 unfolding ups
-ups-all f cap l h g = line-all l (omega arith)
+ups-all f cap l h g = added-all l h g .0
 
 -- the needs of the first i lines
 pub record NeedsTo (f cap : List ℕ) (next step : ℕ) (n : List ℕ) (start i : ℕ) : Type 0 where

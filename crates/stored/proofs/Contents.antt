@@ -1,5 +1,5 @@
 -- What the tests of a plan's contents say. Assumes nothing.
-use mathlib.Core.Path.{_≡_, refl, sym, ap, _∙_}
+use mathlib.Core.Path.{_≡_, ap₂, refl, sym, ap, _∙_}
 use mathlib.Core.Bool.{Bool, true, false, not, _&&_}
 use mathlib.Core.List.{List, map}
 use Prim.Native.Nat.{ℕ, suc, _+_, _*_, _-_, _<_, _≤_}
@@ -11,6 +11,7 @@ use lib.Dec.{leb, eqb}
 use mir.Val.{Fits}
 use mir.Syntax.{w64}
 use borrow.Author.Tests.{le-leb, lt-leb, eq-eqb, ne-eqb, not-true, not-false}
+use Rattle.table.proofs.SumLoops.{sum-more, Summed, summed-more, summed-all}
 use Rattle.table.specs.Lists.{tabulate, sum, sumTo, all, every}
 use Rattle.table.specs.Table.{total}
 use Rattle.table.specs.Whole.{roundsTo}
@@ -24,7 +25,6 @@ use Rattle.stored.specs.Parts.{cellIn, countIn, weightOf, countAt, weigh
 use Rattle.stored.proofs.Numbers.{rest, number-drop, part-room}
 use Rattle.stored.proofs.Every.{and-assoc, all-ext, Passed, passed-none, passed-more, passed-all, every-not}
 use Rattle.stored.proofs.Layouts.{cells-few}
-use Rattle.stored.proofs.Entries.{sum-more}
 
 -- cell i is within the bound
 abbrev pub cellFits : List ℕ → ℕ → ℕ → Bool
@@ -72,36 +72,26 @@ weighed-all {b} {k} {s} {n} d p h l =
     let q : s ≡ sumTo n (weightOf b) = rw e at (p .is) in
     simp (sym (passed-all (p .some) l), q)
 
--- s is the sum of the first k products of weight and count at place i
-pub record Multiplied (b : List ℕ) (i k s : ℕ) : Type 0 where
-  pub is : s ≡ weightedIn b k i
-  pub small : s ≤ k * 281474976710656
-
-pub multiplied-none : (b : List ℕ) (i : ℕ) → Multiplied b i 0 0
-unfolding sumTo
-multiplied-none b i = record { is = refl; small = omega arith }
-
+-- a product of a number of 32 bits and a count
 module _ {w x : ℕ} (h : w < 4294967296) (l : x < 65536) where
-  product : w * x ≤ 281474976710656
-  product = let a : w ≤ 4294967296 = omega arith in let b : x ≤ 65536 = omega arith in mul-le-mul a b
+  pub product-small : w * x < 281474976710657
+  product-small = let a : w ≤ 4294967296 = omega arith in let b : x ≤ 65536 = omega arith in omega (arith, mul-le-mul a b)
 
   pub product-fits : Fits w64 (w * x)
-  product-fits = record { fits = omega (arith, product) }
+  product-fits = record { fits = omega (arith, product-small) }
 
-  module _ {b : List ℕ} {i k s : ℕ} (m : Multiplied b i k s) where
-    pub multiplied-fits : {n : ℕ} → Reached n i b → k < n → Fits w64 (s + w * x)
-    multiplied-fits r q = record { fits = omega (arith, m .small, product, r .contents .arrays) }
+  pub products-fit : {f : ℕ → ℕ} {b : List ℕ} {i k s n : ℕ} → Summed f 281474976710657 k s → Reached n i b → k < n → Fits w64 (s + w * x)
+  products-fit m r q = record { fits = omega (arith, m .small, product-small, r .contents .arrays) }
 
-    pub multiplied-more : w ≡ weightOf b k → x ≡ countAt b k i → Multiplied b i (k + 1) (s + w * x)
-    multiplied-more e f = record {
-      is =
-          let p : w * x ≡ weightOf b k * countAt b k i = cc in
-          omega (arith, m .is, sum-more (λ j. weightOf b j * countAt b j i) k);
-      small = omega (arith, m .small, product);
-    }
+-- s is the sum of the first k products of weight and count at place i
+abbrev pub Multiplied : List ℕ → ℕ → ℕ → ℕ → Type 0
+Multiplied b i k s = Summed (λ j. weightOf b j * countAt b j i) 281474976710657 k s
 
-pub multiplied-all : {b : List ℕ} {i k s n : ℕ} → Multiplied b i k s → k ≤ n → n ≤ k → s ≡ weightedIn b n i
-multiplied-all {b} {i} {k} {s} {n} m h l = let e : k ≡ n = omega arith in rw e at (m .is)
+pub multiplied-more : (b : List ℕ) (i : ℕ) {w x k s : ℕ} → w < 4294967296 → x < 65536 → Multiplied b i k s → w ≡ weightOf b k → x ≡ countAt b k i → Multiplied b i (k + 1) (s + w * x)
+multiplied-more b i {w} {x} h l m e f = summed-more m (w * x) (ap₂ _*_ e f) (product-small h l)
+
+pub multiplied-all : (b : List ℕ) (i : ℕ) {k s n : ℕ} → Multiplied b i k s → k ≤ n → n ≤ k → s ≡ weightedIn b n i
+multiplied-all b i m h l = summed-all m h l .0
 
 -- the bodies that a plan's contents point to
 pub reached-count : {n i : ℕ} {b : List ℕ} → Reached n i b → (k : ℕ) → k < n → offsetOf b (k + 1) + 2 * i + 2 ≤ length b

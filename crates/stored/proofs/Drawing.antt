@@ -22,7 +22,7 @@ use Rattle.stored.specs.Form.{rowsOf, columnsOf, arraysOf, denominatorOf
 use Rattle.stored.specs.Open.{consistent, openAnswer, drawAnswer, drawnArray}
 use Rattle.stored.specs.Parts.{cellIn, countIn, weightOf, weightsRight, arrayHeld, Laid, Contents, Belongs}
 use Rattle.stored.proofs.Numbers.{rest, part-room}
-use Rattle.stored.proofs.Entries.{sum-more}
+use Rattle.table.proofs.SumLoops.{sum-more}
 use Rattle.stored.proofs.Contents.{made, weight-in, counts-in, cellMet, consistent-parts, stored-by, body-inside}
 use Rattle.stored.proofs.Belonging.{weightsBefore, array-for}
 use Rattle.stored.proofs.Opening.{answerBy, is-open, opened-laid}

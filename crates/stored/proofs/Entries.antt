@@ -1,17 +1,17 @@
 -- Laws on the entries of a table and of an array in their bodies. Assumes nothing.
-use mathlib.Core.Path.{_≡_, refl, sym, ap, _∙_}
+use mathlib.Core.Path.{_≡_, sym, ap, _∙_}
 use mathlib.Core.Bool.{Bool, true, false, not, _&&_}
 use mathlib.Core.List.{List}
 use Prim.Native.Nat.{ℕ, _+_, _*_, _<_, _≤_}
-use native.Mathlib.Nat.{mul-le-mul, mul-le-mul-left, add-mul, mul-add, mul-one}
-use native.Mathlib.Numerals.{add-one}
+use native.Mathlib.Nat.{mul-le-mul, mul-le-mul-left, mul-add, mul-one}
 use native.Mathlib.Omega.{arith}
 use lib.Arith.{digits-lt}
 use lib.ListN.{length}
 use mir.Val.{Fits}
 use mir.Syntax.{w64}
 use borrow.Author.Tests.{not-true, not-false}
-use Rattle.table.specs.Lists.{tabulate, sumTo, all, every}
+use Rattle.table.proofs.SumLoops.{Added}
+use Rattle.table.specs.Lists.{tabulate, all, every}
 use Rattle.table.specs.Table.{places, total, cellPlaces, rowPlaces, columnPlaces, lines}
 use Rattle.table.specs.Whole.{roundsTo}
 use Rattle.table.proofs.Lists.{getD-tabulate, all-append}
@@ -20,32 +20,7 @@ use Rattle.table.proofs.Totals.{total-sum}
 use Rattle.stored.specs.Parts.{cellIn, countIn, entryIn, entryHeld, heldIn, Inside, Lines, Divides, Bodies}
 use Rattle.stored.proofs.Every.{all-ext}
 
--- one number more
-pub sum-more : (f : ℕ → ℕ) (k : ℕ) → sumTo (k + 1) f ≡ sumTo k f + f k
-unfolding sumTo
-sum-more f k = ap (λ (n : ℕ). sumTo n f) (add-one k)
-
--- s is the sum of the first k numbers, each below a bound, and `at` the place after them
-pub record Added (f : ℕ → ℕ) (start step bound k s at : ℕ) : Type 0 where
-  pub is : s ≡ entryIn f start step k
-  pub small : s ≤ k * bound
-  pub next : at ≡ start + k * step
-
-pub added-none : (f : ℕ → ℕ) (start step bound : ℕ) → Added f start step bound 0 0 start
-unfolding sumTo
-added-none f start step bound = record { is = refl; small = omega arith; next = omega arith }
-
 module _ {f : ℕ → ℕ} {start step bound k s at : ℕ} (a : Added f start step bound k s at) where
-  pub added-more : (x : ℕ) → x ≡ f at → x < bound → Added f start step bound (k + 1) (s + x) (at + step)
-  added-more x e h = record {
-    is = let here : x ≡ f (start + k * step) = e ∙ ap f (a .next) in omega (arith, a .is, sum-more (λ i. f (start + i * step)) k);
-    small = omega (arith, a .small, add-mul k 1 bound);
-    next = omega (arith, a .next, add-mul k 1 step);
-  }
-
-  pub added-all : {n : ℕ} → k ≤ n → n ≤ k → (s ≡ entryIn f start step n) × (s ≤ n * bound)
-  added-all {n} h l = let e : k ≡ n = omega arith in (rw e at (a .is), rw e at (a .small))
-
   pub added-inside : {width n : ℕ} {b : List ℕ} → Inside width start step n b → k < n → width * at + width ≤ length b
   added-inside {width} i h = rw (a .next) (i .inside k h)
 

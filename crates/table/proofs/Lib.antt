@@ -1,5 +1,6 @@
 pub mod Lists
 pub mod Sums
+pub mod SumLoops
 pub mod Checks
 pub mod Totals
 pub mod Grids

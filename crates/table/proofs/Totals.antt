@@ -1,9 +1,8 @@
 -- Laws on the entries of a table. Assumes nothing.
 use mathlib.Core.Path.{_≡_, refl, sym, ap, _∙_}
 use mathlib.Core.List.{List, []}
-use Prim.Native.Nat.{ℕ, suc, _+_, _*_, _/_, _%_, _<_, _≤_}
-use native.Mathlib.Nat.{mul-le-mul, lt-of-le-of-lt, add-mul, mul-one}
-use native.Mathlib.Numerals.{add-one}
+use Prim.Native.Nat.{ℕ, _+_, _*_, _/_, _%_, _<_, _≤_}
+use native.Mathlib.Nat.{mul-le-mul, lt-of-le-of-lt, mul-one}
 use native.Mathlib.Omega.{arith}
 use lib.Arith.{digits-lt, digits-div, digits-mod}
 use lib.Dec.{lit<}
@@ -12,6 +11,7 @@ use mir.Val.{Fits}
 use mir.Syntax.{w64}
 use lib.Seq.{ext-getD}
 use borrow.Author.Tests.{lt-ltb, le-ltb}
+use Rattle.table.proofs.SumLoops.{Added, added-all}
 use Rattle.table.specs.Lists.{tabulate, sum, sumTo}
 use Rattle.table.specs.Table.{places, total, cellPlaces, rowPlaces, columnPlaces, allPlaces, gridPlaces, gridAt, gridOf}
 use Rattle.table.specs.Shape.{Shape, Reach}
@@ -26,19 +26,6 @@ total-sum g n f = sum-map (λ k. getD g k 0) n f
 pub total-none : (g : List ℕ) → total g [] ≡ 0
 unfolding total sum
 total-none g = refl
-
--- no place
-pub total-zero : (g : List ℕ) (start step : ℕ) → 0 ≡ total g (places start step 0)
-unfolding sumTo
-total-zero g start step = sym (total-sum g 0 _)
-
--- one place more
-pub total-more : (g : List ℕ) (start step k : ℕ) → total g (places start step (k + 1)) ≡ total g (places start step k) + getD g (start + k * step) 0
-unfolding sumTo
-total-more g start step k =
-    ap (λ (n : ℕ). total g (places start step n)) (add-one k)
-    ∙ total-sum g (suc k) _
-    ∙ ap (λ (x : ℕ). x + getD g (start + k * step) 0) (sym (total-sum g k _))
 
 -- products of sizes, and places, are small
 pub small-product : {r c : ℕ} → r ≤ 12 → c ≤ 12 → Fits w64 (r * c)
@@ -157,34 +144,17 @@ module _ {r c : ℕ} {g : List ℕ} {k : ℕ} {e : List ℕ} (l : Listed r c g k
       ext-getD 0 e _ (l .len ∙ sym (length-grid r c g))
       (λ i p. l .is i (omega (arith, l .len, p)) ∙ sym (getD-tabulate 169 _ i 0 (omega (arith, l .len, p))))
 
--- s is the sum of k cells, and `at` the place after them
-pub record Summed (g : List ℕ) (start step k s at : ℕ) : Type 0 where
-  pub is : s ≡ total g (places start step k)
-  pub small : s ≤ k * 4294967296
-  pub next : at ≡ start + k * step
+-- a loop that adds up cells
+pub cells-all : (g : List ℕ) {start step bound k s at count : ℕ} → Added (λ i. getD g i 0) start step bound k s at → k ≤ count → count ≤ k → s ≡ total g (places start step count)
+cells-all g {count = count} m h l = added-all m h l .0 ∙ sym (total-sum g count _)
 
-pub summed-none : (g : List ℕ) (start step : ℕ) → Summed g start step 0 0 start
-summed-none g start step = record { is = total-zero g start step; small = omega arith; next = omega arith }
-
-module _ {g : List ℕ} {start step k s at : ℕ} (m : Summed g start step k s at) where
-  pub summed-more : (x : ℕ) → (x ≡ getD g at 0) × (x < 4294967296) → Summed g start step (k + 1) (s + x) (at + step)
-  summed-more x e = record {
-    is =
-        let here : getD g at 0 ≡ getD g (start + k * step) 0 = ap (λ (i : ℕ). getD g i 0) (m .next) in
-        omega (arith, m .is, total-more g start step k);
-    small = omega (arith, m .small);
-    next = omega (arith, m .next, add-mul k 1 step);
-  }
-
-  pub summed-all : {count : ℕ} → k ≤ count → count ≤ k → s ≡ total g (places start step count)
-  summed-all {count} h l = let e : k ≡ count = omega arith in rw e at (m .is)
-
+module _ {f : ℕ → ℕ} {start step bound k s at : ℕ} (m : Added f start step bound k s at) where
   module _ {count n : ℕ} (r : Reach start step count n) (h : k < count) where
-    pub summed-inside : at < n
-    summed-inside = omega (arith, r .inside k h, m .next)
+    pub cells-inside : at < n
+    cells-inside = omega (arith, r .inside k h, m .next)
 
-    pub summed-next : Fits w64 (at + step)
-    summed-next = record { fits = omega (arith, r .inside k h, m .next, r .step-small, r .room) }
+    pub cells-next : Fits w64 (at + step)
+    cells-next = record { fits = omega (arith, r .inside k h, m .next, r .step-small, r .room) }
 
-    pub summed-scaled : Fits w64 (at * 4)
-    summed-scaled = record { fits = omega (arith, r .inside k h, m .next, r .room) }
+    pub cells-scaled : Fits w64 (at * 4)
+    cells-scaled = record { fits = omega (arith, r .inside k h, m .next, r .room) }

@@ -1,5 +1,6 @@
 use Prim.Native.Nat.{_≤_, _-_}
-use Rattle.campaign.proofs.Counting.{Set, set-none, set-more, set-all, set-fits-more}
+use Rattle.campaign.proofs.Counting.{Set, set-more, set-all, set-fits-more}
+use Rattle.table.proofs.SumLoops.{summed-none}
 use borrow.Author.Needs.{needs}
 use Rattle.campaign.proofs.bitset.bits_set.Statement.{statement}
 use Rattle.campaign.proofs.bitset.bits_set.Tie as tie
@@ -11,7 +12,7 @@ abbrev μ-loop : tie.MeasureT-loop
 μ-loop bits from count sum₀ j₀ sum j = count - j
 
 loop-holds : tie.Need-loop-holds Inv-loop μ-loop
-loop-holds c = search (needs, set-none)
+loop-holds c = search (needs, summed-none)
 
 add-bit : tie.Need-add-bit Inv-loop μ-loop
 add-bit c = search needs

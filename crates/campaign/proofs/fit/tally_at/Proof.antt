@@ -1,5 +1,7 @@
 use Prim.Native.Nat.{_≤_, _-_}
-use Rattle.campaign.proofs.Fitting.{Tallied, tallied-none, tallied-fits, tallied-more, tallied-all}
+use Rattle.table.proofs.SumLoops.{summed-none}
+use Rattle.stored.proofs.Contents.{products-fit}
+use Rattle.campaign.proofs.Fitting.{Tallied, tallied-more, tallied-all}
 use borrow.Author.Needs.{needs}
 use Rattle.stored.proofs.Contents.{product-fits, reached-count}
 use Rattle.campaign.proofs.fit.tally_at.Statement.{statement}
@@ -12,7 +14,7 @@ abbrev μ-loop : tie.MeasureT-loop
 μ-loop plan arrays taken i sum₀ k₀ sum k = arrays - k
 
 loop-holds : tie.Need-loop-holds Inv-loop μ-loop
-loop-holds c = search (needs, tallied-none)
+loop-holds c = search (needs, summed-none)
 
 mul-wide : tie.Need-mul-wide Inv-loop μ-loop
 mul-wide c = search needs
@@ -33,7 +35,7 @@ mul-sum : tie.Need-mul-sum Inv-loop μ-loop
 mul-sum c = search (needs, product-fits)
 
 add-sum : tie.Need-add-sum Inv-loop μ-loop
-add-sum c = search (needs, tallied-fits)
+add-sum c = search (needs, products-fit)
 
 add-k : tie.Need-add-k Inv-loop μ-loop
 add-k c = search needs

@@ -1,6 +1,7 @@
 use Prim.Native.Nat.{_≤_, _-_}
 use lib.ListN.{getD}
-use Rattle.rounding.proofs.PartLoops.{LineTo, line-none, line-scaled, line-inside, line-step, line-one, wholes-more, wholes-all}
+use Rattle.table.proofs.SumLoops.{added-none}
+use Rattle.rounding.proofs.PartLoops.{LineTo, line-scaled, line-inside, line-step, line-one, wholes-more, wholes-all}
 use borrow.Author.Needs.{needs}
 use Rattle.rounding.proofs.needs.line.Statement.{statement}
 use Rattle.rounding.proofs.needs.line.Tie as tie
@@ -12,7 +13,7 @@ abbrev μ-loop : tie.MeasureT-loop
 μ-loop f cap start step s₀ at₀ k₀ s at k = 12 - k
 
 loop-holds : tie.Need-loop-holds Inv-loop μ-loop
-loop-holds c = search (needs, line-none)
+loop-holds c = search (needs, added-none)
 
 mul-s : tie.Need-mul-s Inv-loop μ-loop
 mul-s c = search (needs, line-scaled)

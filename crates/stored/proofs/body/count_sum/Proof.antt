@@ -1,7 +1,8 @@
 use native.Mathlib.Omega.{arith}
 use Prim.Native.Nat.{_≤_, _-_}
 use Rattle.stored.specs.Parts.{countIn}
-use Rattle.stored.proofs.Entries.{Added, added-none, added-more, added-all, added-inside}
+use Rattle.table.proofs.SumLoops.{Added, added-none, added-more, added-all}
+use Rattle.stored.proofs.Entries.{added-inside}
 use borrow.Author.Needs.{needs}
 use Rattle.stored.proofs.body.count_sum.Statement.{statement}
 use Rattle.stored.proofs.body.count_sum.Tie as tie

@@ -1,5 +1,6 @@
 use Prim.Native.Nat.{_≤_, _-_}
-use Rattle.stored.proofs.Contents.{Multiplied, multiplied-none, multiplied-more, multiplied-all, multiplied-fits, product-fits, reached-count}
+use Rattle.table.proofs.SumLoops.{summed-none}
+use Rattle.stored.proofs.Contents.{Multiplied, multiplied-more, multiplied-all, products-fit, product-fits, reached-count}
 use borrow.Author.Needs.{needs}
 use Rattle.stored.proofs.content.weighted.Statement.{statement}
 use Rattle.stored.proofs.content.weighted.Tie as tie
@@ -11,7 +12,7 @@ abbrev μ-loop : tie.MeasureT-loop
 μ-loop plan arrays i sum₀ k₀ sum k = arrays - k
 
 loop-holds : tie.Need-loop-holds Inv-loop μ-loop
-loop-holds c = search (needs, multiplied-none)
+loop-holds c = search (needs, summed-none)
 
 add-field : tie.Need-add-field Inv-loop μ-loop
 add-field c = search needs
@@ -32,7 +33,7 @@ mul-sum : tie.Need-mul-sum Inv-loop μ-loop
 mul-sum c = search (needs, product-fits)
 
 add-sum : tie.Need-add-sum Inv-loop μ-loop
-add-sum c = search (needs, multiplied-fits)
+add-sum c = search (needs, products-fit)
 
 add-k : tie.Need-add-k Inv-loop μ-loop
 add-k c = search needs

@@ -1,23 +1,25 @@
+use lib.ListN.{getD}
 use Prim.Native.Nat.{_≤_, _-_}
-use Rattle.table.proofs.Totals.{Summed, summed-none, summed-more, summed-all, summed-inside, summed-next, summed-scaled}
+use Rattle.table.proofs.Totals.{cells-all, cells-inside, cells-next, cells-scaled}
+use Rattle.table.proofs.SumLoops.{Added, added-none, added-more}
 use borrow.Author.Needs.{needs}
 use Rattle.table.proofs.entries.sum.Statement.{statement}
 use Rattle.table.proofs.entries.sum.Tie as tie
 
 abbrev Inv-loop : tie.InvT-loop
-Inv-loop cells start step count s₀ at₀ k₀ s at k = (k ≤ count) × Summed cells start step k s at
+Inv-loop cells start step count s₀ at₀ k₀ s at k = (k ≤ count) × Added (λ i. getD cells i 0) start step 4294967296 k s at
 
 abbrev μ-loop : tie.MeasureT-loop
 μ-loop cells start step count s₀ at₀ k₀ s at k = count - k
 
 loop-holds : tie.Need-loop-holds Inv-loop μ-loop
-loop-holds c = search (needs, summed-none)
+loop-holds c = search (needs, added-none)
 
 mul-wide : tie.Need-mul-wide Inv-loop μ-loop
-mul-wide c = search (needs, summed-scaled)
+mul-wide c = search (needs, cells-scaled)
 
 shared-slice-read-wide : tie.Need-shared-slice-read-wide Inv-loop μ-loop
-shared-slice-read-wide c = search (needs, summed-inside)
+shared-slice-read-wide c = search (needs, cells-inside)
 
 wide-requires : tie.Need-wide-requires Inv-loop μ-loop
 wide-requires c κs = search needs
@@ -26,7 +28,7 @@ add-s : tie.Need-add-s Inv-loop μ-loop
 add-s c = search needs
 
 add-at : tie.Need-add-at Inv-loop μ-loop
-add-at c = search (needs, summed-next)
+add-at c = search (needs, cells-next)
 
 add-k : tie.Need-add-k Inv-loop μ-loop
 add-k c = search needs
@@ -35,10 +37,10 @@ loop-less : tie.Need-loop-less Inv-loop μ-loop
 loop-less c = search needs
 
 loop-again : tie.Need-loop-again Inv-loop μ-loop
-loop-again c = search (needs, summed-more)
+loop-again c = search (needs, added-more)
 
 returns : tie.Need-returns Inv-loop μ-loop
-returns c = search (needs, summed-all)
+returns c = search (needs, cells-all)
 
 pub sum-spec : {M : Type 1} → statement M
 sum-spec =
