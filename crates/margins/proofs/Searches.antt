@@ -77,9 +77,9 @@ module _ (up down rows cols : List ℕ) (ends : ℕ) {start front rows-left : �
   }
 
 -- nothing leads on
-stuck : {up down rows cols : List ℕ} {ends start k front rows-left cols-left : ℕ} → Progress up down ends start rows cols k front rows-left cols-left
-    → ((p q : ℕ) → p < 13 → q < 13 → has up p q + on cols-left q ≤ 1 + on rows-left p) → Reached up down ends start rows cols 13 0
-stuck {rows-left = rows-left} {cols-left = cols-left} t u = record {
+stuck : {up down rows cols : List ℕ} {ends start k front rows-left cols-left : ℕ} (column level : ℕ) → column ≡ 13 → Progress up down ends start rows cols k front rows-left cols-left
+    → ((p q : ℕ) → p < 13 → q < 13 → has up p q + on cols-left q ≤ 1 + on rows-left p) → Reached up down ends start rows cols column level
+stuck {rows-left = rows-left} {cols-left = cols-left} column level e t u = record {
   bound = omega arith;
   found = λ l. absurd (omega arith);
   none = λ z. record { rows-left = rows-left; cols-left = cols-left; begin = t .begin; ups = u; downs = t .downs; full = t .full };
@@ -103,16 +103,16 @@ module _ {up down rows cols : List ℕ} {ends start k front rows-left cols-left 
   }
 
   -- no column is new
-  pub progress-shut : next ≡ 0 → Reached up down ends start rows cols 13 0
-  progress-shut e =
-      stuck t (λ p q hp hq. omega (arith, t .ups p q hp hq, a .all p q, b .is q, empty q, on-le front p, on-le cols-left q, on-le (getD up p 0) q))
+  pub progress-shut : next ≡ 0 → (column level : ℕ) → (column ≡ 13) × (level ≡ 0) → Reached up down ends start rows cols column level
+  progress-shut e column level n =
+      stuck column level (n .0) t (λ p q hp hq. omega (arith, t .ups p q hp hq, a .all p q, b .is q, empty q, on-le front p, on-le cols-left q, on-le (getD up p 0) q))
     where
       empty : (q : ℕ) → on next q ≡ 0
       empty q = ap (λ (n : ℕ). on n q) e ∙ on-zero q
 
 -- every column is reached
-pub progress-full : {up down rows cols : List ℕ} {ends start k front rows-left cols-left : ℕ} → Progress up down ends start rows cols k front rows-left cols-left → 13 ≤ k → Reached up down ends start rows cols 13 0
-progress-full {up} {cols-left = cols-left} t h = stuck t (λ p q hp hq. omega (arith, none q hq, on-le (getD up p 0) q))
+pub progress-full : {up down rows cols : List ℕ} {ends start k front rows-left cols-left : ℕ} → Progress up down ends start rows cols k front rows-left cols-left → 13 ≤ k → (column level : ℕ) → (column ≡ 13) × (level ≡ 0) → Reached up down ends start rows cols column level
+progress-full {up} {cols-left = cols-left} t h column level n = stuck column level (n .0) t (λ p q hp hq. omega (arith, none q hq, on-le (getD up p 0) q))
   where
     none : (q : ℕ) → q < 13 → on cols-left q ≡ 0
     none q hq = omega (arith, t .count, sum-term 13 (λ j. on cols-left j) q hq)

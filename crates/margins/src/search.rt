@@ -21,6 +21,16 @@ pub struct Found {
     pub level: usize,
 }
 
+// The answer of a search that finds no column.
+fn nowhere() -> Found
+    ensures { λ r. ⌜ (r .column ≡ 13) × (r .level ≡ 0) ⌝ }
+{
+    Found {
+        column: 13,
+        level: 0,
+    }
+}
+
 // Goes from row `start` to columns that can be raised, from these to rows that can be lowered, and so on, until a column of `ends` is reached:
 // that column and its level, or column 13 where there is none. Keeps the rows and the columns of each level.
 pub fn reach(
@@ -48,10 +58,7 @@ pub fn reach(
             };
         }
         if next == 0 {
-            return Found {
-                column: 13,
-                level: 0,
-            };
+            return nowhere();
         }
         cols_left = minus(cols_left, next);
         front = meet(union_of(down, next), rows_left);
@@ -59,10 +66,7 @@ pub fn reach(
         cols[level] = next;
         rows[level + 1] = front;
     }
-    Found {
-        column: 13,
-        level: 0,
-    }
+    nowhere()
 }
 
 // Flips a place: takes q out of the set p of `a`, and puts p into the set q of `b`.

@@ -37,6 +37,9 @@ some-requires c κs = search needs
 returns : tie.Need-returns Inv-loop μ-loop
 returns c = search (needs, progress-found)
 
+nowhere-requires : tie.Need-nowhere-requires Inv-loop μ-loop
+nowhere-requires c κs = search needs
+
 returns-2 : tie.Need-returns-2 Inv-loop μ-loop
 returns-2 c = search (needs, progress-shut)
 
@@ -76,6 +79,9 @@ loop-less c = search needs
 loop-again : tie.Need-loop-again Inv-loop μ-loop
 loop-again c = search (needs, progress-step)
 
+nowhere-requires-2 : tie.Need-nowhere-requires-2 Inv-loop μ-loop
+nowhere-requires-2 c κs = search needs
+
 returns-3 : tie.Need-returns-3 Inv-loop μ-loop
 returns-3 c = search (needs, progress-full)
 
@@ -94,6 +100,7 @@ reach-spec =
     meet-requires-2
     some-requires
     returns
+    nowhere-requires
     returns-2
     minus-requires-2
     union-of-requires-2
@@ -107,4 +114,5 @@ reach-spec =
     add-level
     loop-less
     loop-again
+    nowhere-requires-2
     returns-3)
