@@ -100,9 +100,10 @@ fn draw_step(
             write_array(plan, s, number, counts);
             add_counts(counts, cells, tally);
             set_bit(bits, number as usize);
+            let count = taken + 1;
             Step {
                 answer: Answer::Done,
-                taken: taken + 1,
+                taken: count,
             }
         }
     }

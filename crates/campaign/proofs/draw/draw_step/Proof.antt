@@ -50,8 +50,8 @@ set-bit-requires c κs =
     (told .before .before .draw-opened .ensures) (told .opened2 .given .1) in
     bit-asked done
 
-add-t29 : tie.Need-add-t29
-add-t29 c =
+add-count : tie.Need-add-count
+add-count c =
     let told = c .before .before .before .before .before .before .before .before .before .before .before .before .before .before .before in
     let a = told .before .before .before .before .before .before .before .before .before .args in
     let done = accepted-by (a .plan .now) (recordOf (a .taken) (a .bits .now) (a .tally .now)) (a .number) (length (a .counts .now))
@@ -104,7 +104,7 @@ draw-step-spec =
     write-array-requires
     add-counts-requires
     set-bit-requires
-    add-t29
+    add-count
     same-length
     same-length-2
     returns
