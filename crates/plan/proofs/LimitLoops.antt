@@ -14,6 +14,7 @@ use mir.Syntax.{w64}
 use Rattle.table.specs.Table.{maxDenominator, maxEntry}
 use Rattle.table.specs.Whole.{roundsTo}
 use Rattle.table.proofs.Lists.{each-more}
+use Rattle.stored.proofs.Rounding.{rounded-high, rounded-low}
 use Rattle.plan.specs.Rounds.{limitOf}
 use Rattle.plan.specs.Grids.{Rounded, Limits, Smallest, Bears, Lost}
 use Rattle.plan.proofs.Entries.{Side, side, below, above}
@@ -23,31 +24,37 @@ module _ (w e n : ℕ) (p : ((0 < w) × (w ≤ maxDenominator)) × ((e ≤ maxEn
   wp : 0 < w
   wp = p .0 .0
 
-  times : n * w ≤ e + w × (e < n * w + w) × (n * w ≤ e → n * w + w - e ≡ limitOf w e n) × (e < n * w → e + w - n * w ≡ limitOf w e n)
-  times = go (side w wp e n (p .1 .1))
+  high : n * w < e + w
+  high = rounded-high w e n wp (p .1 .1)
+
+  limits-are : (n * w ≤ e → n * w + w - e ≡ limitOf w e n) × (e < n * w → e + w - n * w ≡ limitOf w e n)
+  limits-are = go (side w wp e n (p .1 .1))
     where
-      go : Side w wp e n (p .1 .1) → n * w ≤ e + w × (e < n * w + w) × (n * w ≤ e → n * w + w - e ≡ limitOf w e n) × (e < n * w → e + w - n * w ≡ limitOf w e n)
+      go : Side w wp e n (p .1 .1) → (n * w ≤ e → n * w + w - e ≡ limitOf w e n) × (e < n * w → e + w - n * w ≡ limitOf w e n)
       go (below q l) =
           let m : n * w ≡ e / w * w = ap (λ (x : ℕ). x * w) q in
-          (omega (arith, div-add-mod' e w), omega (arith, div-add-mod' e w, mod-lt e wp), λ h. omega (arith, div-add-mod' e w), λ h. absurd (omega (arith, div-add-mod' e w)))
+          (λ h. omega (arith, div-add-mod' e w), λ h. absurd (omega (arith, div-add-mod' e w)))
       go (above q z l) =
           let m : n * w ≡ e / w * w + w = ap (λ (x : ℕ). x * w) q ∙ add-mul (e / w) 1 w ∙ ap (λ (x : ℕ). e / w * w + x) (one-mul w) in
-          (omega (arith, div-add-mod' e w), omega (arith, div-add-mod' e w, mod-lt e wp), λ h. absurd (omega (arith, div-add-mod' e w, mod-lt e wp)), λ h. omega (arith, div-add-mod' e w))
+          (λ h. absurd (omega (arith, div-add-mod' e w, mod-lt e wp)), λ h. omega (arith, div-add-mod' e w))
 
   pub product-fits : Fits w64 (n * w)
-  product-fits = record { fits = omega (arith, times .0, p .0 .1, p .1 .0) }
+  product-fits = record { fits = omega (arith, high, p .0 .1, p .1 .0) }
+
+  pub next-fits : Fits w64 (n * w + w)
+  next-fits = record { fits = omega (arith, high, p .0 .1, p .1 .0) }
 
   pub above-whole : e ≤ n * w + w
-  above-whole = omega (arith, times .1)
+  above-whole = omega (arith, rounded-low w e n wp (p .1 .1))
 
   pub below-whole : n * w ≤ e + w
-  below-whole = times .0
+  below-whole = omega (arith, high)
 
   pub limit-below : n * w ≤ e → n * w + w - e ≡ limitOf w e n
-  limit-below = times .2
+  limit-below = limits-are .0
 
   pub limit-above : e < n * w → e + w - n * w ≡ limitOf w e n
-  limit-above = times .3
+  limit-above = limits-are .1
 
 -- the first k limits
 pub record LimitsTo (w : ℕ) (e n l : List ℕ) (k : ℕ) : Type 0 where

@@ -19,6 +19,7 @@ pub record Rounded (w : ℕ) (e n : List ℕ) : Type 0 where
   pub entry-small : (k : ℕ) → getD e k 0 ≤ maxEntry
   pub rounds : (k : ℕ) → k < 169 → roundsTo w (getD e k 0) (getD n k 0) ≡ true
 
+-- l has the limit of each entry
 pub record Limits (w : ℕ) (e n l : List ℕ) : Type 0 where
   pub len : length l ≡ 169
   pub is : (k : ℕ) → k < 169 → getD l k 0 ≡ limitOf w (getD e k 0) (getD n k 0)
@@ -36,6 +37,7 @@ pub record Bears (x : ℕ) (e n : List ℕ) : Type 0 where
   pub small : (k : ℕ) → getD e k 0 ≤ maxEntry
   pub enough : (k : ℕ) → k < 169 → x * getD n k 0 ≤ getD e k 0
 
+-- e' is what e has left when x times n is taken
 pub record Lost (x : ℕ) (e n e' : List ℕ) : Type 0 where
   pub len : length e' ≡ 169
   pub is : (k : ℕ) → k < 169 → getD e' k 0 ≡ getD e k 0 - x * getD n k 0

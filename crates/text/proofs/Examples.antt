@@ -1,6 +1,6 @@
 -- The examples hold, by computing both sides. Assumes nothing.
 use mathlib.Core.Path.{_≡_, refl}
-use mathlib.Core.List.{[], _∷_, map, zipWith}
+use mathlib.Core.List.{map, zipWith}
 use Rattle.table.specs.Lists.{tabulate, sum, least, all}
 use Rattle.table.specs.Table.{total, entryPlaces}
 use Rattle.table.specs.Table as table
@@ -10,16 +10,15 @@ use Rattle.rounding.specs.Order.{firstOf}
 use Rattle.rounding.specs.Rounding.{isRounding, firstRounding}
 use Rattle.plan.specs.Rounds.{limitOf, weightOf, without, roundsFrom, planOf}
 use Rattle.text.specs.Text.{numbersFrom, parse, digits, decimal, spaced, line, lines, lineNumbers, listing, refused, output}
-use Rattle.text.specs.Examples.{parses, outputs}
+use Rattle.text.specs.Examples.{parses, numbers, numerals, outputs}
 
 pub parsed : map (λ p. parse (p .text)) parses ≡ map (λ p. p .numbers) parses
 unfolding parse numbersFrom all
 parsed = refl
 
--- numbers and their digits
-decimals : map decimal (0 ∷ 7 ∷ 10 ∷ 4294967295 ∷ []) ≡ (48 ∷ []) ∷ (55 ∷ []) ∷ (49 ∷ 48 ∷ []) ∷ (52 ∷ 50 ∷ 57 ∷ 52 ∷ 57 ∷ 54 ∷ 55 ∷ 50 ∷ 57 ∷ 53 ∷ []) ∷ []
+pub digits-are : map decimal numbers ≡ numerals
 unfolding decimal digits
-decimals = refl
+digits-are = refl
 
 pub printed : map (λ o. output (o .text)) outputs ≡ map (λ o. o .prints) outputs
 unfolding parse numbersFrom all decimal digits spaced line lines lineNumbers listing refused output checkOf planOf roundsFrom weightOf limitOf without tabulate sum least total entryPlaces table.lines whole gap roundsTo firstOf isRounding firstRounding zipWith

@@ -29,7 +29,7 @@ abbrev pub isText : ℕ → Bool
 isText x = isDigit x || isGap x
 
 -- "numbers (digits 0 to 9, leading zeros allowed) separated by one or more spaces or line ends (byte 10), which may also stand first and last":
--- the numbers in some bytes; `some v` is the value of the digits just read, if any
+-- the numbers in some bytes; `some v` is the value of the digits just read, if any. (The last case goes one way only, where `cond` would compute both.)
 unfoldable pub numbersFrom : Option ℕ → List ℕ → List ℕ
 numbersFrom none [] = []
 numbersFrom (some v) [] = v ∷ []

@@ -5,9 +5,9 @@ ghost use mathlib.Core.List.{List, map};
 ghost use Prim.Native.Nat.{ℕ, _<_, _≤_};
 ghost use lib.ListN.{length, getD};
 ghost use Rattle.stored.specs.Form.{laidOut, decode};
-ghost use Rattle.text.specs.Text.{maxText, maxNumber, parse, listing, output};
+ghost use Rattle.text.specs.Text.{maxText, maxNumber, parse, decimal, listing, output};
 ghost use Rattle.text.specs.Write.{maxListing};
-ghost use Rattle.text.specs.Examples.{parses, outputs};
+ghost use Rattle.text.specs.Examples.{parses, numbers, numerals, outputs};
 
 pub mod output;
 mod parse;
@@ -36,5 +36,6 @@ pub fn claims()
     ensures longest { λ _. ⌜ ((b : List ℕ) → ((k : ℕ) → getD b k 0 < 256) → laidOut b ≡ true
         → length (listing (decode b)) ≤ maxListing) ⌝ }
     ensures parsed { λ _. ⌜ map (λ p. parse (p .text)) parses ≡ map (λ p. p .numbers) parses ⌝ }
+    ensures digits { λ _. ⌜ map decimal numbers ≡ numerals ⌝ }
     ensures printed { λ _. ⌜ map (λ o. output (o .text)) outputs ≡ map (λ o. o .prints) outputs ⌝ }
 {}

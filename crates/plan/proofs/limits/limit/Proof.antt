@@ -1,4 +1,4 @@
-use Rattle.plan.proofs.LimitLoops.{product-fits, above-whole, below-whole, limit-below, limit-above}
+use Rattle.plan.proofs.LimitLoops.{product-fits, next-fits, above-whole, below-whole, limit-below, limit-above}
 use borrow.Author.Needs.{needs}
 use Rattle.plan.proofs.limits.limit.Statement.{statement}
 use Rattle.plan.proofs.limits.limit.Tie as tie
@@ -7,7 +7,7 @@ mul-whole : tie.Need-mul-whole
 mul-whole c = product-fits _ _ _ (c .pre)
 
 add-result : tie.Need-add-result
-add-result c = search needs
+add-result c = next-fits _ _ _ (c .before .pre)
 
 sub-result : tie.Need-sub-result
 sub-result c = search (needs, above-whole)

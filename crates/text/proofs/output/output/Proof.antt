@@ -1,3 +1,4 @@
+use native.Mathlib.Omega.{arith}
 use borrow.Author.Tests.{not-true, not-false}
 use Rattle.text.proofs.Outputs.{text-refused, numbers-accepted, table-printed}
 use borrow.Author.Needs.{needs}
@@ -31,13 +32,13 @@ sub-output-table : tie.Need-sub-output-table
 sub-output-table c =
     let m = c .before in
     let l = numbers-accepted _ _ (m .before .before .parse .ensures) (not-false _ (m .if1 .left)) in
-    l .enough
+    omega (arith, l .enough)
 
 part-output-table-start : tie.Need-part-output-table-start
 part-output-table-start c =
     let m = c .before .before in
     let l = numbers-accepted _ _ (m .before .before .parse .ensures) (not-false _ (m .if1 .left)) in
-    l .enough
+    omega (arith, l .enough)
 
 part-output-table-end : tie.Need-part-output-table-end
 part-output-table-end c =

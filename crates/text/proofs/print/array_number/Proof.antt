@@ -1,3 +1,4 @@
+use native.Mathlib.Omega.{arith}
 use Rattle.text.proofs.Lines.{weight-there, count-there, weight-read, count-read}
 use borrow.Author.Needs.{needs}
 use Rattle.text.proofs.print.array_number.Statement.{statement}
@@ -10,13 +11,15 @@ sub-count-at-2 : tie.Need-sub-count-at-2
 sub-count-at-2 c = search needs
 
 count-at-requires : tie.Need-count-at-requires
-count-at-requires c κs = let m = c .before .before .pre in count-there _ (m .0) _ _ (m .1) (m .2) (search needs) (m .3)
+count-at-requires c κs = let m = c .before .before .pre in count-there _ (m .0) _ _ (m .1) (m .2) (omega arith) (m .3)
 
 cast-result : tie.Need-cast-result
 cast-result c = search needs
 
 returns : tie.Need-returns
-returns c = search (needs, count-read)
+returns c =
+    let m = c .before .before .before in
+    count-read _ _ _ _ (m .pre .1) (omega arith) (m .pre .3) (c .count-at .ensures)
 
 field-requires : tie.Need-field-requires
 field-requires c κs = search (needs, weight-there)
