@@ -1,4 +1,4 @@
--- Bits in a list of bytes: one bit set, all zero. Assumes nothing.
+-- Bits in a list of bytes: one bit set, all zero, and as the code reads, counts and sets them. Assumes nothing.
 use mathlib.Core.Path.{_≡_, sym, ap, _∙_}
 use mathlib.Core.Bool.{cond}
 use mathlib.Core.List.{List}
@@ -10,9 +10,14 @@ use lib.ListN.{length, getD, set, replicate, length-replicate, getD-replicate}
 use lib.Dec.{eqb, eqb·suc-suc, eqb·zero-suc, eqb·suc-zero}
 use lib.Seq.{getD-set-same, getD-set-other}
 use borrow.Author.Tests.{eq-eqb, ne-eqb}
-use Rattle.table.specs.Answer.{written}
+use Rattle.base.specs.Buffers.{written}
 use Rattle.campaign.specs.Record.{bitOf}
-use Rattle.campaign.proofs.Buffers.{written-at}
+use Rattle.base.proofs.Buffers.{written-at}
+use lib.Pow.{pow-mono}
+use mir.Val.{Fits}
+use mir.Syntax.{w8, w32}
+use Rattle.base.proofs.SumLoops.{Summed, summed-more, summed-all}
+use Rattle.campaign.specs.Parts.{bitsSet}
 
 -- bit k of a number
 unfoldable bit : ℕ → ℕ → ℕ
@@ -78,3 +83,28 @@ bit-le b d = omega arith
 pub byte-set : (b : List ℕ) (d : ℕ) → getD b (d / 8) 0 < 256 → bitOf b d ≡ 0 → getD b (d / 8) 0 + 2 ^ (d % 8) < 256
 unfolding bitOf bit
 byte-set b d h z = added-small (d % 8) 8 (getD b (d / 8) 0) (omega arith) h z
+
+-- the code's power of 2 in a byte
+pub power : (d : ℕ) → 1 * 2 ^ (d % 8) % 256 ≡ 2 ^ (d % 8)
+power d = let l : 2 ^ (d % 8) ≤ 2 ^ 7 = pow-mono {j = 7} (omega arith) in omega arith
+
+module _ (b : List ℕ) (d : ℕ) where
+  pub set-fits : Fits w8 (getD b (d / 8) 0) → bitOf b d ≡ 0 → Fits w8 (getD b (d / 8) 0 + 1 * 2 ^ (d % 8) % 256)
+  set-fits h z = record { fits = omega (arith, power d, byte-set b d (omega arith) z) }
+
+  pub set-is : set b (d / 8) (getD b (d / 8) 0 + 1 * 2 ^ (d % 8) % 256) ≡ set b (d / 8) (getD b (d / 8) 0 + 2 ^ (d % 8))
+  set-is = ap (λ (x : ℕ). set b (d / 8) (getD b (d / 8) 0 + x)) (power d)
+
+-- s is how many of j bits are set
+abbrev pub Set : List ℕ → ℕ → ℕ → ℕ → Type 0
+Set bits from j s = Summed (λ i. bitOf bits (from + i)) 2 j s
+
+module _ (bits : List ℕ) (from : ℕ) {j s : ℕ} (p : Set bits from j s) where
+  pub set-more : (x : ℕ) → x ≡ bitOf bits (from + j) → Set bits from (j + 1) (s + x)
+  set-more x e = summed-more p x e (omega (arith, bit-le bits (from + j)))
+
+  pub set-fits-more : (x : ℕ) {n : ℕ} → x ≡ bitOf bits (from + j) → j < n → n ≤ 65535 → Fits w32 (s + x)
+  set-fits-more x e h l = record { fits = omega (arith, p .small, bit-le bits (from + j)) }
+
+  pub set-all : {n : ℕ} → j ≤ n → n ≤ j → s ≡ bitsSet bits from n
+  set-all h l = summed-all p h l .0

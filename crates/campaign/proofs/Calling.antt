@@ -1,39 +1,40 @@
 -- What a start and a campaign draw answer and write, by the tests on their way. Assumes nothing.
 use mathlib.Core.Path.{_≡_, refl, sym, ap, _∙_}
-use mathlib.Core.Bool.{Bool, true, false, not, cond, _&&_}
-use mathlib.Core.List.{List, _∷_}
+use mathlib.Core.Bool.{Bool, true, false, not, _&&_}
+use mathlib.Core.List.{List, [], _∷_, _++_}
+use mathlib.Core.Option.{Option, some, none}
 use Prim.Native.Nat.{ℕ, zero, suc, _+_, _*_, _/_, _%_, _^_, _<_, _≤_}
 use native.Mathlib.Omega.{arith}
 use lib.ListN.{length, getD, set, replicate}
 use lib.Dec.{leb, ltb, eqb}
 use mir.Val.{Fits}
-use mir.Syntax.{w32}
-use borrow.Author.Tests.{le-leb, lt-leb, leb-true, lt-ltb, le-ltb, ltb-true, eqb-true, eq-eqb, ne-eqb, not-true, not-false}
-use Rattle.table.specs.Lists.{tabulate, sumTo}
-use Rattle.table.specs.Answer.{after, written}
-use Rattle.table.specs.declared.Answer.{Answer}
-use Rattle.table.specs.declared.Answer.the-variants.{Done, Refused}
-use Rattle.table.specs.declared.Refusal.{Refusal}
-use Rattle.table.specs.declared.Refusal.the-variants.{Layout, Content, Buffer, Number, Record, Taken}
-use Rattle.table.proofs.Lists.{and-left, and-right, tabulate-ext, tabulate-all}
-use Rattle.stored.specs.declared.Sizes.{Sizes}
-use Rattle.stored.specs.declared.Opened.{Opened}
-use Rattle.stored.specs.declared.Opened.the-variants as opened
-use Rattle.stored.specs.Plan.{Plan}
-use Rattle.stored.specs.Form.{sizesOf, laidOut, decode}
-use Rattle.stored.specs.Open.{consistent, opens, openAnswer, drawnArray}
-use Rattle.table.specs.Fill.{Filled}
-use Rattle.table.proofs.Filling.{front-more, front-all}
-use Rattle.stored.proofs.Opening.{is-open, opened-laid}
-use Rattle.stored.proofs.Opens.{answer-opens, opens-within}
-use Rattle.campaign.specs.Record.{CampaignRecord, bitOf, bitBytes, cellCount, roomFor, spareClear, takenSum, fits, startAnswer, started, campaignAnswer, taking}
-use Rattle.campaign.specs.Calls.{recordOf, Leaves}
-use Rattle.campaign.specs.Parts.{ifOpened, openFor, orRefused, Addable, Fitted}
-use Rattle.campaign.specs.declared.Step.{Step}
-use Rattle.campaign.proofs.Buffers.{written-at, written-length}
+use mir.Syntax.{w32, w64}
+use borrow.Author.Tests.{le-leb, lt-leb, leb-false, lt-ltb, le-ltb, ltb-false, eqb-true, eq-eqb, ne-eqb, not-true, not-false}
+use Rattle.base.specs.Lists.{tabulate, sumTo}
+use Rattle.base.specs.Buffers.{written}
+use Rattle.base.specs.Fill.{Filled}
+use Rattle.base.proofs.Lists.{and-left, and-right, tabulate-ext, tabulate-all}
+use Rattle.base.proofs.Filling.{front-more, front-all}
+use Rattle.base.proofs.Buffers.{written-at, written-length}
+use Rattle.refusals.specs.declared.Answer.the-variants.{Done, Refused}
+use Rattle.refusals.specs.declared.Refusal.{Refusal}
+use Rattle.refusals.specs.declared.Refusal.the-variants.{Buffer, Number, Record, Taken}
+use Rattle.refusals.specs.Due.{Test, refuse, due, after, Answers}
+use Rattle.refusals.proofs.Dues.{due-first, due-second, not-here, not-later, refused-so, accepted-so}
+use Rattle.form.specs.declared.Sizes.{Sizes}
+use Rattle.opening.specs.declared.Opened.{Opened}
+use Rattle.opening.specs.declared.Opened.the-variants as opened
+use Rattle.form.specs.Plan.{Plan, cellCount}
+use Rattle.form.specs.Form.{sizesOf, decode}
+use Rattle.opening.specs.Open.{openTests, openRefusal, Opens, openAnswer, drawnArray, Drawing}
+use Rattle.form.specs.Parts.{Sized}
+use Rattle.form.proofs.Sizing.{cells-are, denominator-is, sized-denominator}
+use Rattle.opening.proofs.Opening.{is-open, is-refused, opens-layout, opens-by, opens-answer, opened-sized, sizes-product}
+use Rattle.campaign.specs.Record.{CampaignRecord, recordOf, bitOf, bitBytes, roomFor, spareClear, takenSum, fits, startTests, startRefusal, started, campaignRefusal, taking}
+use Rattle.campaign.specs.Parts.{Unset, sizesOr, Addends, Fitted}
 use Rattle.campaign.proofs.Opened.{sound}
-use Rattle.campaign.proofs.Numbers.{array-length}
-use Rattle.campaign.proofs.Widths.{count-room, tally-room}
+use Rattle.campaign.proofs.Steps.{room-bits, room-tally}
+use Rattle.campaign.proofs.Numbers.{array-length, count-room, tally-room}
 
 -- zeros at the start of a buffer
 zeros : (n : ℕ) → tabulate {A = ℕ} n (λ i. 0) ≡ replicate n 0
@@ -51,7 +52,7 @@ cleared-more p h m = front-more p 0 refl h m
 abbrev pub sumAt : List ℕ → List ℕ → ℕ → ℕ
 sumAt counts tally i = getD tally i 0 + getD counts i 0
 
-module _ {counts old now : List ℕ} {i n x : ℕ} (p : Filled (sumAt counts old) 0 old now i) (e : x ≡ getD counts i 0) (h : i < n) (a : Addable n counts old) where
+module _ {counts old now : List ℕ} {i n x : ℕ} (p : Filled (sumAt counts old) 0 old now i) (e : x ≡ getD counts i 0) (h : i < n) (a : Addends n counts old) where
   sum-here : getD now i 0 + x ≡ sumAt counts old i
   sum-here = omega (arith, p .beyond i (omega arith))
 
@@ -61,174 +62,154 @@ module _ {counts old now : List ℕ} {i n x : ℕ} (p : Filled (sumAt counts old
   pub sum-stored : Filled (sumAt counts old) 0 old (set now i (getD now i 0 + x)) (i + 1)
   sum-stored = front-more p _ sum-here h (a .tally-room)
 
--- opening a plan for a record
-module _ (b : List ℕ) (m n : ℕ) where
-  pub for-refused : (x : Refusal) → openAnswer b ≡ opened.Refused x → opened.Refused x ≡ openFor b m n
-  unfolding openFor
-  for-refused x e = rw e
+-- an answer with sizes, or with a refusal, and what is due
+module _ (b : List ℕ) where
+  says-plan : {o : Option Refusal} {t : Sizes} → o ≡ none → t ≡ sizesOf b → opened.Plan t ≡ sizesOr b o
+  unfolding sizesOr
+  says-plan h e = rw (h, e)
 
-  module _ (s : Sizes) (o : openAnswer b ≡ opened.Plan s) where
-    pub short-bits : m < bitBytes (s .denominator) → opened.Refused Buffer ≡ openFor b m n
-    unfolding openFor
-    short-bits h = rw (o, lt-leb _ _ h)
+  says-refused : {o : Option Refusal} {x : Refusal} → o ≡ some x → opened.Refused x ≡ sizesOr b o
+  unfolding sizesOr
+  says-refused h = rw h
 
-    module _ (h : bitBytes (s .denominator) ≤ m) where
-      pub short-tally : n < s .rows * s .columns → opened.Refused Buffer ≡ openFor b m n
-      unfolding openFor
-      short-tally l = rw (o, le-leb _ _ h, lt-leb _ _ l)
+  told-plan : (o : Option Refusal) {t : Sizes} → sizesOr b o ≡ opened.Plan t → (o ≡ none) × (t ≡ sizesOf b)
+  unfolding sizesOr
+  told-plan none e = (refl, cc)
+  told-plan (some x) e = absurd (let z : _≡_ {A = ℕ} 0 1 = cc in omega arith)
 
-      pub long-enough : s .rows * s .columns ≤ n → opened.Plan s ≡ openFor b m n
-      unfolding openFor
-      long-enough l = rw (o, le-leb _ _ h, le-leb _ _ l)
+  told-refused : (o : Option Refusal) {x : Refusal} → sizesOr b o ≡ opened.Refused x → o ≡ some x
+  unfolding sizesOr
+  told-refused none e = absurd (let z : _≡_ {A = ℕ} 0 1 = cc in omega arith)
+  told-refused (some y) e = cc
 
--- what an answer with a plan says
-pub record IsFor (b : List ℕ) (m n : ℕ) (s : Sizes) : Type 0 where
-  pub is-open : openAnswer b ≡ opened.Plan s
-  pub bits : bitBytes (s .denominator) ≤ m
-  pub tally : s .rows * s .columns ≤ n
+pub open-product : (b : List ℕ) {o : Opened} {t : Sizes} → o ≡ openAnswer b → o ≡ opened.Plan t → Fits w64 (t .rows * t .columns)
+open-product b {t = t} is e = sizes-product b t (sym is ∙ e)
 
-pub is-for : (b : List ℕ) (m n : ℕ) (s : Sizes) → openFor b m n ≡ opened.Plan s → IsFor b m n s
-unfolding openFor
-is-for b m n s e = go (openAnswer b) refl e
-  where
-    test : (u v : Bool) (t : Sizes) → cond (u && v) (opened.Plan t) (opened.Refused Buffer) ≡ opened.Plan s → (u ≡ true) × (v ≡ true) × (t ≡ s)
-    test true true t q = (refl, refl, cc)
-    test true false t q = absurd (let z : _≡_ {A = ℕ} 0 1 = cc in omega arith)
-    test false v t q = absurd (let z : _≡_ {A = ℕ} 0 1 = cc in omega arith)
+-- the ways of opening a plan for a record
+module _ (b : List ℕ) (s : CampaignRecord) {o : Opened} (is : o ≡ openAnswer b) where
+  pub for-refused : {x : Refusal} → o ≡ opened.Refused x → opened.Refused x ≡ sizesOr b (startRefusal b s)
+  unfolding startRefusal openRefusal
+  for-refused {x} e = says-refused b (due-first (openTests b) _ x (is-refused b x (sym is ∙ e)))
 
-    go : (o : Opened) → openAnswer b ≡ o
-        → ifOpened o (λ s. cond (leb (bitBytes (s .denominator)) m && leb (s .rows * s .columns) n) (opened.Plan s) (opened.Refused Buffer)) ≡ opened.Plan s
-        → IsFor b m n s
-    go (opened.Plan t) p q =
-        let r = test (leb (bitBytes (t .denominator)) m) (leb (t .rows * t .columns) n) t q in
-        let same : t ≡ s = r .2 in
-        let m′ : bitBytes (t .denominator) ≤ m = leb-true _ _ (r .0) in
-        let n′ : t .rows * t .columns ≤ n = leb-true _ _ (r .1) in
-        record { is-open = p ∙ ap (λ (x : Sizes). opened.Plan x) same; bits = rw same at m′; tally = rw same at n′ }
-    go (opened.Refused x) p q = absurd (let z : _≡_ {A = ℕ} 0 1 = cc in omega arith)
+  module _ {t : Sizes} (e : o ≡ opened.Plan t) where
+    room-by : startRefusal b s
+        ≡ due (refuse Buffer (not (leb (bitBytes (t .denominator)) (length (s .bits)) && leb (t .rows * t .columns) (length (s .tally)))) ∷ [])
+    unfolding startRefusal openRefusal decode
+    room-by = let i = is-open b t (sym is ∙ e) in rw (i .sizes) (due-second (openTests b) _ (i .opens))
 
--- the answer by what opening finds, with what else may apply
-abbrev thenAnswer : Opened → (Sizes → Answer) → Answer
-thenAnswer (opened.Plan s) f = f s
-thenAnswer (opened.Refused x) f = Refused x
+    pub short-bits : length (s .bits) < bitBytes (t .denominator) → opened.Refused Buffer ≡ sizesOr b (startRefusal b s)
+    unfolding due
+    short-bits h = says-refused b (room-by ∙ simp (lt-leb _ _ h))
 
-then-by : (x y : Bool) (t : Sizes) (test : Sizes → Bool) (f : Sizes → Answer)
-    → cond x (cond y (cond (test t) (f t) (Refused Buffer)) (Refused Content)) (Refused Layout)
-    ≡ thenAnswer
-    (ifOpened (cond x (cond y (opened.Plan t) (opened.Refused Content)) (opened.Refused Layout)) (λ s. cond (test s) (opened.Plan s) (opened.Refused Buffer)))
-    f
-then-by true true t test f = last (test t)
-  where
-    last : (z : Bool) → cond z (f t) (Refused Buffer) ≡ thenAnswer (cond z (opened.Plan t) (opened.Refused Buffer)) f
-    last true = refl
-    last false = refl
-then-by true false t test f = refl
-then-by false y t test f = refl
+    module _ (h : bitBytes (t .denominator) ≤ length (s .bits)) where
+      pub short-tally : length (s .tally) < t .rows * t .columns → opened.Refused Buffer ≡ sizesOr b (startRefusal b s)
+      unfolding due
+      short-tally l = says-refused b (room-by ∙ simp (le-leb _ _ h, lt-leb _ _ l))
 
-module _ (b : List ℕ) (s : CampaignRecord) where
-  start-by : startAnswer b s ≡ thenAnswer (openFor b (length (s .bits)) (length (s .tally))) (λ t. Done)
-  unfolding startAnswer openFor openAnswer decode
-  start-by = then-by (laidOut b) (consistent (decode b)) (sizesOf b)
-      (λ t. leb (bitBytes (t .denominator)) (length (s .bits)) && leb (t .rows * t .columns) (length (s .tally))) (λ t. Done)
+      pub long-enough : t .rows * t .columns ≤ length (s .tally) → opened.Plan t ≡ sizesOr b (startRefusal b s)
+      unfolding due
+      long-enough l = says-plan b (room-by ∙ simp (le-leb _ _ h, le-leb _ _ l)) (is-open b t (sym is ∙ e) .sizes)
 
-  module _ (d room : ℕ) where
-    abbrev rest : Sizes → Answer
-    rest t = cond (leb (t .rows * t .columns) room)
-        (cond (ltb d (t .denominator)) (cond (fits (decode b) s) (cond (eqb (bitOf (s .bits) d) 0) Done (Refused Taken)) (Refused Record)) (Refused Number))
-        (Refused Buffer)
+-- what is known where nothing is due of a start, nor of what may apply after it
+module _ (b : List ℕ) (s : CampaignRecord) (l : List Test) (h : due (startTests b s ++ l) ≡ none) where
+  opened-first : Opens b
+  opened-first = opens-by b (not-false _ (not-here _ _ h)) (not-false _ (not-here _ _ (not-later _ _ h)))
 
-    both : (u v : Bool) (a r : Answer) → cond (u && v) a r ≡ cond u (cond v a r) r
-    both true v a r = refl
-    both false v a r = refl
+  room-first : roomFor (decode b) s ≡ true
+  room-first = not-false _ (not-here _ _ (not-later _ _ (not-later _ _ h)))
 
-    campaign-by : campaignAnswer b d s room ≡ thenAnswer (openFor b (length (s .bits)) (length (s .tally))) rest
-    unfolding campaignAnswer openFor openAnswer decode
-    campaign-by =
-        ap (λ (a : Answer). cond (laidOut b) (cond (consistent (decode b)) a (Refused Content)) (Refused Layout))
-        (both (roomFor (decode b) s) (leb (cellCount (decode b)) room) _ (Refused Buffer))
-        ∙ then-by (laidOut b) (consistent (decode b)) (sizesOf b)
-        (λ t. leb (bitBytes (t .denominator)) (length (s .bits)) && leb (t .rows * t .columns) (length (s .tally))) rest
+  fitted-of : {t : Sizes} → t ≡ sizesOf b → Fitted t b (s .bits) (s .tally)
+  fitted-of z =
+      let sized : Sized _ b = record { laid-out = opens-layout b opened-first; sizes = z } in
+      record {
+        is-open = rw z (opens-answer b opened-first);
+        bits-room = rw (denominator-is sized) at (room-bits (decode b) s room-first);
+        tally-room = rw (cells-are sized) at (room-tally (decode b) s room-first);
+      }
 
--- the ways of a campaign draw to its answer
-module _ (b : List ℕ) (s : CampaignRecord) (d room : ℕ) where
-  pub draw-refused : (x : Refusal) → openFor b (length (s .bits)) (length (s .tally)) ≡ opened.Refused x → opened.Refused x ≡ orRefused (campaignAnswer b d s room) b
-  draw-refused x e = sym (ap (λ (a : Answer). orRefused a b) (campaign-by b s d room ∙ ap (λ (o : Opened). thenAnswer o (rest b s d room)) e))
+  after-start : due l ≡ none
+  after-start = not-later _ _ (not-later _ _ (not-later _ _ h))
 
-  module _ (t : Sizes) (e : openFor b (length (s .bits)) (length (s .tally)) ≡ opened.Plan t) where
-    out : (a : Answer) → rest b s d room t ≡ a → orRefused a b ≡ orRefused (campaignAnswer b d s room) b
-    out a q = sym (ap (λ (a : Answer). orRefused a b) (campaign-by b s d room ∙ ap (λ (o : Opened). thenAnswer o (rest b s d room)) e ∙ q))
+-- a call that goes on with a plan opened for its record
+module _ (b bits tally : List ℕ) {o : Opened} (is : o ≡ sizesOr b (startRefusal b (recordOf 0 bits tally))) where
+  module _ {t : Sizes} (e : o ≡ opened.Plan t) where
+    start-sizes : t ≡ sizesOf b
+    start-sizes = told-plan b _ (sym is ∙ e) .1
 
-    pub short-counts : room < t .rows * t .columns → opened.Refused Buffer ≡ orRefused (campaignAnswer b d s room) b
-    short-counts h = out (Refused Buffer) (rw (lt-leb _ _ h))
+    start-none : (n : ℕ) → startRefusal b (recordOf n bits tally) ≡ none
+    unfolding startRefusal
+    start-none n = told-plan b _ (sym is ∙ e) .0
 
-    pub draw-fitted : Fitted t b (s .bits) (s .tally)
-    draw-fitted = let i = is-for b _ _ t e in record { is-open = i .is-open; bits-room = i .bits; tally-room = i .tally }
+    pub start-fitted : Fitted t b bits tally
+    unfolding startRefusal
+    start-fitted = fitted-of b (recordOf 0 bits tally) [] (start-none 0) start-sizes
 
-    module _ (h : t .rows * t .columns ≤ room) where
-      pub number-above : t .denominator ≤ d → opened.Refused Number ≡ orRefused (campaignAnswer b d s room) b
-      number-above l = out (Refused Number) (rw (le-leb _ _ h, le-ltb _ _ l))
+    pub start-bits : bitBytes (t .denominator) ≤ length bits
+    start-bits = start-fitted .bits-room
 
-      module _ (l : d < t .denominator) where
-        pub bit-there : d < 8 * length (s .bits)
-        bit-there = omega (arith, is-for b _ _ t e .bits)
+    pub start-tally : t .rows * t .columns ≤ length tally
+    start-tally = start-fitted .tally-room
 
-        module _ (x : Bool) (xe : x ≡ fits (decode b) s) where
-          pub not-fitting : not x ≡ true → opened.Refused Record ≡ orRefused (campaignAnswer b d s room) b
-          not-fitting q = out (Refused Record) (rw (le-leb _ _ h, lt-ltb _ _ l, sym xe ∙ not-true x q))
+    pub start-product : Fits w64 (t .rows * t .columns)
+    start-product = sizes-product b t (start-fitted .is-open)
 
-          module _ (q : not x ≡ false) (y : ℕ) (ye : y ≡ bitOf (s .bits) d) where
-            pub is-taken : (y ≡ 0 → ⊥) → opened.Refused Taken ≡ orRefused (campaignAnswer b d s room) b
-            is-taken z = out (Refused Taken) (rw (le-leb _ _ h, lt-ltb _ _ l, sym xe ∙ not-false x q, ne-eqb _ 0 (λ r. z (ye ∙ r))))
+    pub bit-there : {d : ℕ} → d < t .denominator → d < 8 * length bits
+    bit-there h = omega (arith, start-fitted .bits-room)
 
-            pub is-accepted : y ≡ 0 → opened.Plan t ≡ orRefused (campaignAnswer b d s room) b
-            is-accepted z =
-                ap (λ (k : Sizes). opened.Plan k) (is-open b t (is-for b _ _ t e .is-open) .sizes)
-                ∙ out Done (rw (le-leb _ _ h, lt-ltb _ _ l, sym xe ∙ not-false x q, eq-eqb _ 0 (sym ye ∙ z)))
+  module _ (n : ℕ) where
+    abbrev given : CampaignRecord
+    given = recordOf n bits tally
 
--- what an accepted draw has passed
-pub record Accepted (b : List ℕ) (s : CampaignRecord) (d room : ℕ) (t : Sizes) : Type 0 where
-  pub answer : campaignAnswer b d s room ≡ Done
-  pub is-for : IsFor b (length (s .bits)) (length (s .tally)) t
-  pub counts : t .rows * t .columns ≤ room
-  pub below : d < t .denominator
-  pub fit : fits (decode b) s ≡ true
-  pub new : bitOf (s .bits) d ≡ 0
+    start-refused : {x : Refusal} → o ≡ opened.Refused x → startRefusal b given ≡ some x
+    unfolding startRefusal
+    start-refused e = told-refused b _ (sym is ∙ e)
 
-refused-out : (a : Answer) (b : List ℕ) (x : Refusal) → orRefused a b ≡ opened.Refused x → a ≡ Refused x
-refused-out Done b x e = absurd (let z : _≡_ {A = ℕ} 0 1 = cc in omega arith)
-refused-out (Refused y) b x e = let q : y ≡ x = cc in ap (λ (r : Refusal). Refused r) q
+    -- what a start leaves
+    pub start-keeps : {x : Refusal} → o ≡ opened.Refused x → Answers (startRefusal b given) (started (decode b) given) given (Refused x) given
+    start-keeps e = refused-so (start-refused e)
 
-plan-out : (a : Answer) (b : List ℕ) (t : Sizes) → orRefused a b ≡ opened.Plan t → (a ≡ Done) × (t ≡ sizesOf b)
-plan-out Done b t e = (refl, cc)
-plan-out (Refused y) b t e = absurd (let z : _≡_ {A = ℕ} 0 1 = cc in omega arith)
+    pub start-leaves : {t : Sizes} → o ≡ opened.Plan t → {bits′ tally′ : List ℕ} → bits′ ≡ written (replicate (bitBytes (t .denominator)) 0) bits
+        → tally′ ≡ written (replicate (t .rows * t .columns) 0) tally
+        → Answers (startRefusal b given) (started (decode b) given) given Done (recordOf 0 bits′ tally′)
+    unfolding started decode
+    start-leaves e p q = accepted-so (start-none e n) (rw (p, q, start-sizes e))
 
-passed : (u v w z : Bool) → cond u (cond v (cond w (cond z Done (Refused Taken)) (Refused Record)) (Refused Number)) (Refused Buffer) ≡ Done
-    → (u ≡ true) × (v ≡ true) × (w ≡ true) × (z ≡ true)
-passed true true true true e = (refl, refl, refl, refl)
-passed true true true false e = absurd (let z : _≡_ {A = ℕ} 0 1 = cc in omega arith)
-passed true true false z e = absurd (let z : _≡_ {A = ℕ} 0 1 = cc in omega arith)
-passed true false w z e = absurd (let z : _≡_ {A = ℕ} 0 1 = cc in omega arith)
-passed false v w z e = absurd (let z : _≡_ {A = ℕ} 0 1 = cc in omega arith)
+    -- the ways of a campaign draw to its answer
+    module _ (d room : ℕ) where
+      pub draw-refused : {x : Refusal} → o ≡ opened.Refused x → opened.Refused x ≡ sizesOr b (campaignRefusal b d given room)
+      unfolding startRefusal campaignRefusal
+      draw-refused {x} e = says-refused b (due-first (startTests b given) _ x (start-refused e))
 
-accepted-of : (b : List ℕ) (s : CampaignRecord) (d room : ℕ) (t : Sizes) → orRefused (campaignAnswer b d s room) b ≡ opened.Plan t → Accepted b s d room t
-accepted-of b s d room t e = go (openFor b (length (s .bits)) (length (s .tally))) refl (sym (campaign-by b s d room) ∙ done)
-  where
-    done : campaignAnswer b d s room ≡ Done
-    done = plan-out (campaignAnswer b d s room) b t e .0
+      module _ {t : Sizes} (e : o ≡ opened.Plan t) where
+        draw-by : campaignRefusal b d given room
+            ≡ due (refuse Buffer (ltb room (t .rows * t .columns)) ∷ refuse Number (leb (t .denominator) d)
+            ∷ refuse Record (not (fits (decode b) given)) ∷ refuse Taken (not (eqb (bitOf bits d) 0)) ∷ [])
+        unfolding startRefusal campaignRefusal decode
+        draw-by = rw (start-sizes e) (due-second (startTests b given) _ (start-none e n))
 
-    go : (o : Opened) → openFor b (length (s .bits)) (length (s .tally)) ≡ o → thenAnswer o (rest b s d room) ≡ Done → Accepted b s d room t
-    go (opened.Plan k) p q =
-        let i = is-for b (length (s .bits)) (length (s .tally)) k p in
-        let same : k ≡ t = is-open b k (i .is-open) .sizes ∙ sym (plan-out (campaignAnswer b d s room) b t e .1) in
-        let r = passed (leb (k .rows * k .columns) room) (ltb d (k .denominator)) (fits (decode b) s) (eqb (bitOf (s .bits) d) 0) q in
-        let c : k .rows * k .columns ≤ room = leb-true (k .rows * k .columns) room (r .0) in
-        let l : d < k .denominator = ltb-true d (k .denominator) (r .1) in
-        record { answer = done; is-for = rw same at i; counts = rw same at c; below = rw same at l; fit = r .2; new = eqb-true (bitOf (s .bits) d) 0 (r .3) }
-    go (opened.Refused x) p q = absurd (let z : _≡_ {A = ℕ} 0 1 = cc in omega arith)
+        pub short-counts : room < t .rows * t .columns → opened.Refused Buffer ≡ sizesOr b (campaignRefusal b d given room)
+        unfolding due
+        short-counts h = says-refused b (draw-by ∙ simp (lt-ltb _ _ h))
 
-pub accepted-by : (b : List ℕ) (s : CampaignRecord) (d room : ℕ) {o : Opened} {t : Sizes} → o ≡ orRefused (campaignAnswer b d s room) b → o ≡ opened.Plan t
-    → Accepted b s d room t
-accepted-by b s d room {o} {t} p q = accepted-of b s d room t (sym p ∙ q)
+        module _ (h : t .rows * t .columns ≤ room) where
+          pub number-above : t .denominator ≤ d → opened.Refused Number ≡ sizesOr b (campaignRefusal b d given room)
+          unfolding due
+          number-above l = says-refused b (draw-by ∙ simp (le-ltb _ _ h, le-leb _ _ l))
+
+          module _ (l : d < t .denominator) (x : Bool) (xe : x ≡ fits (decode b) given) where
+            pub not-fitting : not x ≡ true → opened.Refused Record ≡ sizesOr b (campaignRefusal b d given room)
+            unfolding due
+            not-fitting q = says-refused b (draw-by ∙ simp (le-ltb _ _ h, lt-leb _ _ l, sym xe ∙ not-true x q))
+
+            module _ (q : not x ≡ false) (y : ℕ) (ye : y ≡ bitOf bits d) where
+              pub is-taken : (y ≡ 0 → ⊥) → opened.Refused Taken ≡ sizesOr b (campaignRefusal b d given room)
+              unfolding due
+              is-taken z = says-refused b (draw-by ∙ simp (le-ltb _ _ h, lt-leb _ _ l, sym xe ∙ not-false x q, ne-eqb _ 0 (λ r. z (ye ∙ r))))
+
+              pub is-accepted : y ≡ 0 → opened.Plan t ≡ sizesOr b (campaignRefusal b d given room)
+              unfolding due
+              is-accepted z =
+                  says-plan b (draw-by ∙ simp (le-ltb _ _ h, lt-leb _ _ l, sym xe ∙ not-false x q, eq-eqb _ 0 (sym ye ∙ z))) (start-sizes e)
 
 -- what a record that fits is known to hold
 module _ (p : Plan) (s : CampaignRecord) (f : fits p s ≡ true) where
@@ -247,84 +228,99 @@ module _ (p : Plan) (s : CampaignRecord) (f : fits p s ≡ true) where
   fit-tally i l =
       eqb-true _ _ (tabulate-all (λ j. eqb (getD (s .tally) j 0) (takenSum p (s .bits) j)) (cellCount p) (λ i. i) (and-right (spare && count) _ f) i l)
 
--- an accepted draw
-module _ {b : List ℕ} {s : CampaignRecord} {d room : ℕ} {t : Sizes} (a : Accepted b s d room t) where
-  opened-by : opens b ≡ true
-  opened-by = answer-opens b t (a .is-for .is-open)
+-- a campaign draw, by what is due of it
+module _ (b : List ℕ) (s : CampaignRecord) (d room : ℕ) {o : Opened} (is : o ≡ sizesOr b (campaignRefusal b d s room)) where
+  pub draw-keeps : (counts : List ℕ) {x : Refusal} → o ≡ opened.Refused x
+      → Answers (campaignRefusal b d s room) (taking (decode b) d s) s (Refused x) s
+      × (counts ≡ after (campaignRefusal b d s room) (written (drawnArray b d) counts) counts)
+  unfolding after
+  draw-keeps counts e = let k = told-refused b _ (sym is ∙ e) in (refused-so k, rw k)
 
-  denominators : t .denominator ≡ decode b .denominator
-  unfolding decode
-  denominators = ap (λ (k : Sizes). k .denominator) (is-open b t (a .is-for .is-open) .sizes)
+  -- what an accepted draw has passed
+  module _ {t : Sizes} (e : o ≡ opened.Plan t) where
+    none-due : campaignRefusal b d s room ≡ none
+    none-due = told-plan b _ (sym is ∙ e) .0
 
-  cells : t .rows * t .columns ≡ cellCount (decode b)
-  unfolding decode
-  cells = ap (λ (k : Sizes). k .rows * k .columns) (is-open b t (a .is-for .is-open) .sizes)
+    sizes : t ≡ sizesOf b
+    sizes = told-plan b _ (sym is ∙ e) .1
 
-  number-below : d < decode b .denominator
-  number-below = omega (arith, a .below, denominators)
+    opens : Opens b
+    unfolding campaignRefusal
+    opens = opened-first b s _ none-due
 
-  pub bit-asked : (d < 8 * length (s .bits)) × (bitOf (s .bits) d ≡ 0)
-  bit-asked = (omega (arith, a .is-for .bits, a .below), a .new)
+    fitted : Fitted t b (s .bits) (s .tally)
+    unfolding campaignRefusal
+    fitted = fitted-of b s _ none-due sizes
 
-  few : decode b .denominator ≤ 65535
-  few = omega (arith, denominators, opened-laid b t (a .is-for .is-open) .denominator)
+    sized : Sized t b
+    sized = opened-sized b t (fitted .is-open)
 
-  pub count-small : s .taken + 1 ≤ 65535
-  count-small = omega (arith, fit-count (decode b) s (a .fit), count-room (s .bits) number-below (a .new), few)
+    cells : t .rows * t .columns ≡ cellCount (decode b)
+    cells = sym (cells-are sized)
 
-  cell-small : (i : ℕ) → i < cellCount (decode b) → getD (decode b .cells) i 0 ≤ 65535000
-  cell-small i l = omega (arith, opens-within b opened-by i (omega (arith, sound b opened-by .cells)), few)
+    rest-due : due (refuse Buffer (ltb room (cellCount (decode b))) ∷ refuse Number (leb (decode b .denominator) d)
+        ∷ refuse Record (not (fits (decode b) s)) ∷ refuse Taken (not (eqb (bitOf (s .bits) d) 0)) ∷ []) ≡ none
+    unfolding campaignRefusal
+    rest-due = after-start b s _ none-due
 
-  module _ (counts counts′ : List ℕ) (m : length counts ≡ room) (w : counts′ ≡ written (drawnArray b d) counts) where
-    long : length (drawnArray b d) ≡ t .rows * t .columns
-    long = array-length (sound b opened-by) number-below ∙ sym cells
+    long : t .rows * t .columns ≤ room
+    long = rw cells (ltb-false _ _ (not-here _ _ rest-due))
 
-    count-at : (i : ℕ) → i < t .rows * t .columns → getD counts′ i 0 ≡ getD (drawnArray b d) i 0
-    count-at i l = rw w (written-at (drawnArray b d) counts long i l)
+    below : d < decode b .denominator
+    below = leb-false _ _ (not-here _ _ (not-later _ _ rest-due))
 
-    pub addable : Addable (t .rows * t .columns) counts′ (s .tally)
-    addable = record {
-      counts-room = omega (arith, ap length w ∙ written-length (drawnArray b d) counts long (omega (arith, a .counts)), a .counts);
-      tally-room = a .is-for .tally;
-      small = λ i l.
-          let l′ : i < cellCount (decode b) = omega (arith, cells) in
-          omega (arith, count-at i l, fit-tally (decode b) s (a .fit) i l′, tally-room (sound b opened-by) (s .bits) number-below (a .new) i, cell-small i l′);
-    }
+    fit : fits (decode b) s ≡ true
+    fit = not-false _ (not-here _ _ (not-later _ _ (not-later _ _ rest-due)))
 
-    tally-is : (tally′ : List ℕ) → tally′ ≡ written (tabulate (t .rows * t .columns) (λ i. getD (s .tally) i 0 + getD counts′ i 0)) (s .tally)
-        → tally′ ≡ taking (decode b) d s .tally
-    unfolding taking
-    tally-is tally′ e =
-        e ∙ ap (λ (l : List ℕ). written l (s .tally)) (tabulate-ext _ _ _ (λ i l. ap (λ (x : ℕ). getD (s .tally) i 0 + x) (count-at i l))
-        ∙ ap (λ (n : ℕ). tabulate n (λ i. getD (s .tally) i 0 + getD (drawnArray b d) i 0)) cells)
+    new : bitOf (s .bits) d ≡ 0
+    new = eqb-true _ 0 (not-false _ (not-here _ _ (not-later _ _ (not-later _ _ (not-later _ _ rest-due)))))
 
-    pub draw-leaves : {bits′ tally′ : List ℕ} → tally′ ≡ written (tabulate (t .rows * t .columns) (λ i. getD (s .tally) i 0 + getD counts′ i 0)) (s .tally)
-        → bits′ ≡ set (s .bits) (d / 8) (getD (s .bits) (d / 8) 0 + 2 ^ (d % 8))
-        → Leaves (campaignAnswer b d s room) (taking (decode b) d s) s (record { answer = Done; taken = s .taken + 1 }) bits′ tally′
-    unfolding taking
-    draw-leaves {bits′} {tally′} e q = rw (a .answer) (record { answer = refl; taken = refl; bits = q; tally = tally-is tally′ e })
+    few : decode b .denominator ≤ 65535
+    few = omega (arith, denominator-is sized, sized-denominator sized)
 
--- a refused draw
-pub draw-keeps : (b : List ℕ) (s : CampaignRecord) (d room : ℕ) {o : Opened} {x : Refusal} → o ≡ orRefused (campaignAnswer b d s room) b → o ≡ opened.Refused x
-    → Leaves (campaignAnswer b d s room) (taking (decode b) d s) s (record { answer = Refused x; taken = s .taken }) (s .bits) (s .tally)
-draw-keeps b s d room {o} {x} p q = rw (refused-out (campaignAnswer b d s room) b x (sym p ∙ q)) (record { answer = refl; taken = refl; bits = refl; tally = refl })
+    cell-small : (i : ℕ) → i < cellCount (decode b) → getD (decode b .cells) i 0 ≤ 65535000
+    cell-small i l = omega (arith, sound b opens .meets .within i (omega (arith, sound b opens .cells)), few)
 
--- a start
-module _ (b : List ℕ) (s : CampaignRecord) where
-  pub start-keeps : (x : Refusal) → openFor b (length (s .bits)) (length (s .tally)) ≡ opened.Refused x
-      → Leaves (startAnswer b s) (started (decode b) s) s (record { answer = Refused x; taken = s .taken }) (s .bits) (s .tally)
-  start-keeps x e = rw (start-by b s, e) (record { answer = refl; taken = refl; bits = refl; tally = refl })
+    -- what its callees ask
+    pub draw-product : Fits w64 (t .rows * t .columns)
+    draw-product = sizes-product b t (fitted .is-open)
 
-  module _ (t : Sizes) (e : openFor b (length (s .bits)) (length (s .tally)) ≡ opened.Plan t) where
-    pub start-leaves : {bits′ tally′ : List ℕ} → bits′ ≡ written (replicate (bitBytes (t .denominator)) 0) (s .bits)
-        → tally′ ≡ written (replicate (t .rows * t .columns) 0) (s .tally)
-        → Leaves (startAnswer b s) (started (decode b) s) s (record { answer = Done; taken = 0 }) bits′ tally′
-    unfolding started decode
-    start-leaves {bits′} {tally′} p q =
-        let z : t ≡ sizesOf b = is-open b t (is-for b _ _ t e .is-open) .sizes in
-        rw (start-by b s, e) (record { answer = refl; taken = refl; bits = rw z at p; tally = rw z at q })
+    pub array-asked : {n : ℕ} {counts : List ℕ} → n ≤ d → length counts ≡ room → Drawing t b n counts
+    array-asked h m = record { is-open = fitted .is-open; below = omega (arith, denominator-is sized, below); room = omega (arith, long) }
 
--- the record as a call leaves it
-pub left-by : {a : Answer} {new old : CampaignRecord} {r : Step} {bits′ tally′ : List ℕ} → Leaves a new old r bits′ tally′
-    → recordOf (r .taken) bits′ tally′ ≡ after (r .answer) new old
-left-by {a} {new} {old} {r} {bits′} {tally′} l = rw (l .taken, l .bits, l .tally, l .answer)
+    pub bit-asked : Unset d (s .bits)
+    bit-asked = record { there = omega (arith, fitted .bits-room, denominator-is sized, below); unset = new }
+
+    pub count-small : s .taken + 1 ≤ 65535
+    count-small = omega (arith, fit-count (decode b) s fit, count-room (s .bits) below new, few)
+
+    module _ (counts : List ℕ) {counts′ : List ℕ} (w : counts′ ≡ written (drawnArray b d) counts) where
+      array-long : length (drawnArray b d) ≡ t .rows * t .columns
+      array-long = array-length (sound b opens) below ∙ sym cells
+
+      count-at : (i : ℕ) → i < t .rows * t .columns → getD counts′ i 0 ≡ getD (drawnArray b d) i 0
+      count-at i l = rw w (written-at (drawnArray b d) counts array-long i l)
+
+      pub addable : length counts ≡ room → Addends (t .rows * t .columns) counts′ (s .tally)
+      addable m = record {
+        counts-room = omega (arith, ap length w ∙ written-length (drawnArray b d) counts array-long (omega (arith, long)), long);
+        tally-room = fitted .tally-room;
+        small = λ i l.
+            let l′ : i < cellCount (decode b) = omega (arith, cells) in
+            omega (arith, count-at i l, fit-tally (decode b) s fit i l′, tally-room (sound b opens) (s .bits) below new i, cell-small i l′);
+      }
+
+      tally-is : {tally′ : List ℕ} → tally′ ≡ written (tabulate (t .rows * t .columns) (sumAt counts′ (s .tally))) (s .tally)
+          → tally′ ≡ taking (decode b) d s .tally
+      unfolding taking
+      tally-is q =
+          q ∙ ap (λ (l : List ℕ). written l (s .tally)) (tabulate-ext _ _ _ (λ i l. ap (λ (x : ℕ). getD (s .tally) i 0 + x) (count-at i l))
+          ∙ ap (λ (n : ℕ). tabulate n (sumAt (drawnArray b d) (s .tally))) cells)
+
+      -- what it leaves
+      pub draw-leaves : {bits′ tally′ : List ℕ} → tally′ ≡ written (tabulate (t .rows * t .columns) (sumAt counts′ (s .tally))) (s .tally)
+          → bits′ ≡ set (s .bits) (d / 8) (getD (s .bits) (d / 8) 0 + 2 ^ (d % 8))
+          → Answers (campaignRefusal b d s room) (taking (decode b) d s) s Done (recordOf (s .taken + 1) bits′ tally′)
+          × (counts′ ≡ after (campaignRefusal b d s room) (written (drawnArray b d) counts) counts)
+      unfolding taking after
+      draw-leaves p q = (accepted-so none-due (rw (q, tally-is p)), rw none-due w)

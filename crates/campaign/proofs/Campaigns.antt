@@ -5,22 +5,22 @@ use mathlib.Core.List.{List, List·Memᴰ as Member}
 use Prim.Native.Nat.{ℕ, _+_, _*_, _<_, _≤_}
 use native.Mathlib.Nat.{mul-comm}
 use native.Mathlib.Omega.{arith}
-use Rattle.table.specs.Lists.{sumTo}
+use Rattle.base.specs.Lists.{sumTo}
 use Rattle.table.specs.Table.{total}
 use Rattle.table.specs.Whole.{down, up}
-use Rattle.table.proofs.Sums.{sum-ext, sum-le, sum-zero, sum-add, sum-mul}
-use Rattle.stored.specs.Plan.{Plan}
-use Rattle.stored.specs.Form.{decode}
-use Rattle.stored.specs.Open.{heldTo}
+use Rattle.base.proofs.Sums.{sum-ext, sum-le, sum-zero, sum-add, sum-mul}
+use Rattle.form.specs.Plan.{Plan}
+use Rattle.form.specs.Form.{decode}
+use Rattle.opening.specs.Open.{heldTo}
 use Rattle.campaign.specs.Record.{CampaignRecord}
 use Rattle.campaign.specs.Claim.{Made, used, accepted, drawn, unused, Claim}
-use Rattle.campaign.proofs.Tests.{test-times, test-parts, test-le}
+use Rattle.base.proofs.Tests.{test-times, test-parts, test-le}
 use Rattle.campaign.proofs.Opened.{Sound, sound}
 use Rattle.campaign.proofs.Numbers.{array-entry, planned-sum}
-use Rattle.campaign.proofs.Steps.{Holds, step-start}
+use Rattle.campaign.proofs.Steps.{RunHolds, step-start}
 use Rattle.campaign.proofs.Runs.{start-done, run-holds, run-each, run-asked}
 
-module _ {p : Plan} {s₀ s : CampaignRecord} {run : List Made} (o : Sound p) (holds : Holds p s₀ run s) where
+module _ {p : Plan} {s₀ s : CampaignRecord} {run : List Made} (o : Sound p) (holds : RunHolds p s₀ run s) where
   -- used and unused numbers together are all numbers
   balances : (places : List ℕ) → drawn p run places + unused p run places ≡ total (p .cells) places
   unfolding unused

@@ -1,32 +1,38 @@
 -- Laws on the test of a record: the numbers taken of each array, and the tally by them. Assumes nothing.
 use mathlib.Core.Path.{_≡_, refl, sym, ap, ap₂, _∙_}
 use mathlib.Core.Bool.{Bool, true, false, _&&_}
-use mathlib.Core.List.{List}
+use mathlib.Core.List.{List, []}
 use Prim.Native.Nat.{ℕ, zero, suc, _+_, _-_, _*_, _/_, _<_, _≤_}
 use native.Mathlib.Nat.{mul-comm}
-use native.Mathlib.Decide.{ℕ-discrete}
 use native.Mathlib.Omega.{arith}
-use lib.ListN.{length, getD, set, drop, replicate, length-replicate, length-set}
+use lib.ListN.{length, getD, set, take, replicate, length-replicate}
 use lib.Dec.{eqb}
 use mir.Val.{Fits}
 use mir.Syntax.{w64}
-use borrow.Author.Tests.{eqb-true, eq-eqb, ne-eqb}
-use Rattle.table.specs.Lists.{sumTo, every}
-use Rattle.table.proofs.Lists.{getD-tabulate, each-more}
-use Rattle.table.proofs.Sums.{sum-ext, sum-zero, sum-term, sum-mul, sum-add-range}
-use Rattle.stored.specs.declared.Sizes.{Sizes}
-use Rattle.stored.specs.Form.{rowsOf, columnsOf, arraysOf, offsetOf, decode}
-use Rattle.stored.specs.Open.{consistent, drawnArray}
-use Rattle.stored.specs.Parts.{weightOf, countAt, countIn, Laid, Stored}
-use Rattle.stored.proofs.Numbers.{number-drop}
-use Rattle.stored.proofs.Every.{Passed, passed-more, every-not, every-intro, every-elim, all-ext}
-use Rattle.table.proofs.SumLoops.{sum-more, Summed, summed-more, summed-all}
-use Rattle.stored.proofs.Contents.{product-small, stored-by}
-use Rattle.stored.proofs.Opening.{is-open, opened-laid}
-use Rattle.stored.proofs.Drawing.{drawn-is, weights-add-up}
-use Rattle.campaign.specs.Record.{bitOf, bitBytes, spareClear, takenSum, fits}
-use Rattle.campaign.specs.Calls.{recordOf}
-use Rattle.campaign.specs.Parts.{bitsSet, takenOf, Numbered, Counted, tallyIn, tallyRight, Fitted}
+use borrow.Author.Tests.{eq-eqb, ne-eqb}
+use Rattle.base.specs.Lists.{tabulate, sumTo, every}
+use Rattle.base.specs.Buffers.{written}
+use Rattle.base.specs.Fill.{Filled}
+use Rattle.base.proofs.Lists.{length-tabulate, getD-tabulate}
+use Rattle.base.proofs.Sums.{sum-ext, sum-mul, sum-add-range, sum-places}
+use Rattle.base.proofs.Every.{Passed, passed-more, passed-all, every-not, every-ext, sum-none}
+use Rattle.base.proofs.SumLoops.{sum-more}
+use Rattle.base.proofs.Filling.{filled-none, front-more, front-all}
+use Rattle.base.proofs.Buffers.{written-at, written-length, written-front}
+use Rattle.form.specs.declared.Sizes.{Sizes}
+use Rattle.form.specs.Plan.{Weighted, arrayAt, cellCount, arrayFor}
+use Rattle.form.specs.Form.{decode}
+use Rattle.form.specs.Parts.{HasArray, HasCounts, Sized}
+use Rattle.form.proofs.Readings.{counts-length}
+use Rattle.opening.specs.Weighted.{Addable, Increased}
+use Rattle.opening.specs.Parts.{weightsBefore, weightAt, factored, SumsTo}
+use Rattle.form.proofs.Sizing.{arrays-are, cells-are, denominator-is, sized-few, sized-arrays, sized-denominator, has-counts}
+use Rattle.opening.proofs.Weighting.{sums-none, sums-addable, sums-more}
+use Rattle.opening.proofs.Belonging.{array-for}
+use Rattle.opening.proofs.Opening.{is-open, opened-sized}
+use Rattle.opening.proofs.Opens.{weights-add-up}
+use Rattle.campaign.specs.Record.{recordOf, bitOf, bitBytes, spareClear, takenSum, fits}
+use Rattle.campaign.specs.Parts.{bitsSet, Span, takenOf, takenNumbers, Numbered, ArrayAddable, ArraysAdded, Tally, tallyMet, Fitted}
 
 -- a shorter sum
 sum-part : (m n : ℕ) (f : ℕ → ℕ) → m ≤ n → sumTo m f ≤ sumTo n f
@@ -34,95 +40,153 @@ sum-part m n f h =
     let e : m + (n - m) ≡ n = omega arith in
     omega (arith, sum-add-range m (n - m) f, ap (λ (k : ℕ). sumTo k f) e)
 
+-- a loop over the arrays, of which there are n
+module _ {s : Sizes} {b : List ℕ} (z : Sized s b) where
+  pub arrays-end : s .arrays ≡ length (decode b .arrays)
+  arrays-end = sym (arrays-are z)
+
+  arrays-few : length (decode b .arrays) ≤ 170
+  arrays-few = omega (arith, arrays-are z, sized-arrays z)
+
+  module _ {k n : ℕ} (i : n ≡ length (decode b .arrays)) (h : k < n) where
+    pub array-there : HasArray b k
+    array-there = record { laid-out = z .laid-out; there = rw i at h }
+
+    pub array-place : k < 170
+    array-place = omega (arith, arrays-few)
+
+    pub array-scaled : Fits w64 (k * 4)
+    array-scaled = record { fits = omega (arith, array-place) }
+
 -- the numbers taken of the first k arrays are counted, and the next array's begin at `at`
 pub record Along (b bits taken : List ℕ) (k at : ℕ) : Type 0 where
-  pub begins : at ≡ sumTo k (weightOf b)
-  pub counted : Counted k b bits taken
+  pub begins : at ≡ weightsBefore (decode b .arrays) k
+  pub counted : Filled (takenOf (decode b .arrays) bits) 0 (replicate 170 0) taken k
 
 pub along-none : (b bits : List ℕ) → Along b bits (replicate 170 0) 0 0
 unfolding sumTo
-along-none b bits = record { begins = refl; counted = record { len = length-replicate {A = ℕ} 170 0; each = λ j h. absurd (omega arith) } }
+along-none b bits = record { begins = refl; counted = filled-none _ 0 _ }
 
-module _ {b bits taken : List ℕ} {k at n w : ℕ} (p : Along b bits taken k at) (m : Numbered n b bits) (h : k < n) (e : w ≡ weightOf b k) where
-  up-to : at + w ≤ sumTo n (weightOf b)
-  up-to = omega (arith, p .begins, sum-more (weightOf b) k, sum-part (k + 1) n (weightOf b) (omega arith))
+module _ {b bits taken : List ℕ} {k at : ℕ} (p : Along b bits taken k at) {s : Sizes} (m : Numbered s b bits) where
+  abbrev l : List Weighted
+  l = decode b .arrays
 
-  pub along-room : (at ≤ 65535) × (w ≤ 65535) × (at + w ≤ 8 * length bits)
-  along-room = (omega (arith, up-to, m .few), omega (arith, up-to, m .few), omega (arith, up-to, m .room))
+  few : length l ≤ length (replicate {A = ℕ} 170 0)
+  few = omega (arith, length-replicate {A = ℕ} 170 0, arrays-few (m .sized))
 
-  pub along-fits : Fits w64 (at + w)
-  along-fits = record { fits = omega (arith, up-to, m .few) }
+  module _ {n w : ℕ} (i : n ≡ length (decode b .arrays)) (h : k < n) (e : w ≡ weightAt (decode b .arrays) k) where
+    up-to : at + w ≤ weightsBefore l (length l)
+    up-to = omega (arith, p .begins, sum-more (weightAt l) k, sum-part (k + 1) (length l) (weightAt l) (omega arith))
 
-  pub along-more : (x : ℕ) → x ≡ bitsSet bits at w → Along b bits (set taken k x) (k + 1) (at + w)
-  along-more x q = record {
-    begins = omega (arith, p .begins, sum-more (weightOf b) k);
-    counted = record {
-      len = length-set taken k x ∙ p .counted .len;
-      each = each-more (λ j y. y ≡ takenOf b bits j) taken k x (omega (arith, m .contents .arrays, p .counted .len)) (p .counted .each)
-          (let q′ : bitsSet bits at w ≡ takenOf b bits k = rw (p .begins, e) refl in q ∙ q′);
-    };
-  }
+    pub along-room : Span at w bits
+    along-room = record { begins = omega (arith, up-to, m .few); few = omega (arith, up-to, m .few); room = omega (arith, up-to, m .room) }
 
-pub along-all : {b bits taken : List ℕ} {k at n : ℕ} → Along b bits taken k at → k ≤ n → n ≤ k → Counted n b bits taken
-along-all {k = k} {n = n} p h l = let e : k ≡ n = omega arith in rw e at (p .counted)
+    pub along-fits : Fits w64 (at + w)
+    along-fits = record { fits = omega (arith, up-to, m .few) }
 
--- s is the sum of the first k products of taken numbers and count at place i
-abbrev pub Tallied : List ℕ → List ℕ → ℕ → ℕ → ℕ → Type 0
-Tallied b taken i k s = Summed (λ j. getD taken j 0 * countAt b j i) 281474976710657 k s
+    pub along-more : (x : ℕ) → x ≡ bitsSet bits at w → Along b bits (set taken k x) (k + 1) (at + w)
+    along-more x q = record {
+      begins = omega (arith, p .begins, sum-more (weightAt l) k);
+      counted = front-more (p .counted) x (let same : bitsSet bits at w ≡ takenOf l bits k = rw (p .begins, e) refl in q ∙ same) h (omega (arith, few));
+    }
 
-pub tallied-more : (b taken : List ℕ) (i : ℕ) {w x k s : ℕ} → w < 4294967296 → x < 65536 → Tallied b taken i k s → w ≡ getD taken k 0 → x ≡ countAt b k i → Tallied b taken i (k + 1) (s + w * x)
-tallied-more b taken i {w} {x} h l m e f = summed-more m (w * x) (ap₂ _*_ e f) (product-small h l)
+  pub along-all : {n : ℕ} → n ≡ length (decode b .arrays) → k ≤ n → n ≤ k → taken ≡ takenNumbers (decode b .arrays) bits
+  unfolding takenNumbers
+  along-all i h q = front-all (p .counted) (omega arith) (omega arith) few
 
-pub tallied-all : (b taken : List ℕ) (i : ℕ) {k s n : ℕ} → Tallied b taken i k s → k ≤ n → n ≤ k → s ≡ tallyIn b taken n i
-tallied-all b taken i m h l = summed-all m h l .0
+module _ (l : List Weighted) (bits : List ℕ) where
+  taken-at : (j : ℕ) → j < length l → getD (takenNumbers l bits) j 0 ≡ takenOf l bits j
+  unfolding takenNumbers
+  taken-at j h = written-at (tabulate (length l) (takenOf l bits)) (replicate 170 0) (length-tabulate _ _) j h ∙ getD-tabulate (length l) (takenOf l bits) j 0 h
 
--- the tally at place i is right
-abbrev pub placeRight : List ℕ → List ℕ → List ℕ → ℕ → ℕ → Bool
-placeRight b taken tally k i = eqb (getD tally i 0) (tallyIn b taken k i)
+-- an array's counts, as they are read into a scratch and added to the sums
+pub scratch-asked : {s : Sizes} {b : List ℕ} {k : ℕ} {sums : List ℕ} → ArrayAddable s b k sums → HasCounts b k (replicate 144 0)
+scratch-asked a = has-counts (a .sized) (a .there) (omega (arith, length-replicate {A = ℕ} 144 0, sized-few (a .sized)))
 
-module _ (b taken tally : List ℕ) (k i x y : ℕ) (ye : y ≡ getD tally i 0) (e : x ≡ tallyIn b taken k i) where
-  pub place-wrong : {n : ℕ} → i < n → (y ≡ x → ⊥) → false ≡ every n (placeRight b taken tally k)
-  place-wrong {n} l h = every-not (placeRight b taken tally k) n i l (ne-eqb _ _ (λ q. h (ye ∙ q ∙ sym e)))
+module _ {s : Sizes} {b : List ℕ} {k : ℕ} {sums : List ℕ} (a : ArrayAddable s b k sums) {scratch : List ℕ}
+    (e : scratch ≡ written (arrayAt (decode b .arrays) k .counts) (replicate 144 0)) where
+  abbrev n : ℕ
+  n = s .rows * s .columns
 
-  pub place-right : Passed (placeRight b taken tally k) i → y ≡ x → Passed (placeRight b taken tally k) (i + 1)
-  place-right p h = passed-more p (eq-eqb _ _ (sym ye ∙ h ∙ e))
+  abbrev array : List ℕ
+  array = arrayAt (decode b .arrays) k .counts
 
--- a sum is 0 exactly if each number is
-sum-none : (n : ℕ) (f : ℕ → ℕ) → every n (λ i. eqb (f i) 0) ≡ eqb (sumTo n f) 0
-sum-none n f = go (ℕ-discrete (sumTo n f) 0)
-  where
-    none : (t : Bool) → every n (λ i. eqb (f i) 0) ≡ t → (sumTo n f ≡ 0 → ⊥) → every n (λ i. eqb (f i) 0) ≡ false
-    none false e h = e
-    none true e h = absurd (h (sum-ext n f (λ i. 0) (λ i l. eqb-true _ _ (every-elim (λ i. eqb (f i) 0) n e i l)) ∙ sum-zero n))
+  long : length array ≡ n
+  long = counts-length b k (rw (arrays-are (a .sized)) (a .there)) ∙ cells-are (a .sized)
 
-    go : Dec (sumTo n f ≡ 0) → every n (λ i. eqb (f i) 0) ≡ eqb (sumTo n f) 0
-    go (yes e) = every-intro (λ i. eqb (f i) 0) n (λ i l. let z : f i ≡ 0 = omega (arith, sum-term n f i l) in eq-eqb _ _ z) ∙ sym (eq-eqb _ _ e)
-    go (no h) = none _ refl h ∙ sym (ne-eqb _ _ h)
+  read : take n scratch ≡ array
+  read = ap (take n) e ∙ written-front array (replicate 144 0) long
+
+  pub read-room : n ≤ length scratch
+  read-room =
+      let zeros : length (replicate {A = ℕ} 144 0) ≡ 144 = length-replicate {A = ℕ} 144 0 in
+      let all : n ≤ 144 = sized-few (a .sized) in
+      omega (arith, ap length e, written-length array (replicate 144 0) long (omega arith))
+
+  pub read-length : n ≡ length (take n scratch)
+  read-length = sym (ap length read ∙ long)
+
+  pub read-addable : Addable (take n scratch) sums
+  read-addable = rw read (a .addable)
+
+  pub read-added : {factor : ℕ} {new : List ℕ} → Increased factor (take n scratch) sums new → Increased factor (arrayAt (decode b .arrays) k .counts) sums new
+  read-added i = rw read at i
+
+-- array by array, each with its factor
+module _ {s : Sizes} {b : List ℕ} (z : Sized s b) where
+  pub added-none : (f : ℕ → ℕ) → SumsTo f (decode b .arrays) (cellCount (decode b)) 0 (replicate 144 0)
+  added-none f = sums-none _ _ _ (omega (arith, cells-are z, sized-few z))
+
+  module _ {f : ℕ → ℕ} {k n : ℕ} {sums : List ℕ} (p : SumsTo f (decode b .arrays) (cellCount (decode b)) k sums) (i : n ≡ length (decode b .arrays)) where
+    module _ (h : k < n) where
+      many : length (arrayAt (decode b .arrays) k .counts) ≡ cellCount (decode b)
+      many = counts-length b k (rw i at h)
+
+      pub array-addable : ArrayAddable s b k sums
+      array-addable = record {
+        sized = z;
+        there = omega (arith, arrays-are z);
+        addable = sums-addable p many (omega (arith, cells-are z, sized-few z)) (omega (arith, arrays-few z));
+      }
+
+      pub added-more : {factor : ℕ} {new : List ℕ} → factor ≡ f k → Increased factor (arrayAt (decode b .arrays) k .counts) sums new
+          → SumsTo f (decode b .arrays) (cellCount (decode b)) (k + 1) new
+      added-more e q = sums-more p many q e refl
+
+    pub added-all : k ≤ n → n ≤ k → SumsTo f (decode b .arrays) (cellCount (decode b)) (length (decode b .arrays)) sums
+    added-all h q = let e : k ≡ length (decode b .arrays) = omega arith in rw e at p
+
+-- the tally, place by place
+abbrev pub placeMet : List ℕ → List ℕ → ℕ → Bool
+placeMet tally sums i = eqb (getD tally i 0) (getD sums i 0)
+
+module _ (tally sums : List ℕ) {i x : ℕ} (e : x ≡ getD tally i 0) where
+  pub place-unmet : {m n : ℕ} → i < m → m ≤ n → (x ≡ getD sums i 0 → ⊥) → false ≡ tallyMet n tally sums
+  unfolding tallyMet
+  place-unmet {n = n} k l h = every-not (placeMet tally sums) n i (omega arith) (ne-eqb _ _ (λ q. h (e ∙ q)))
+
+  pub place-met : Passed (placeMet tally sums) i → x ≡ getD sums i 0 → Passed (placeMet tally sums) (i + 1)
+  place-met p h = passed-more p (eq-eqb _ _ (sym e ∙ h))
+
+pub places-met : (tally sums : List ℕ) {i n : ℕ} → Passed (placeMet tally sums) i → n ≤ i → true ≡ tallyMet n tally sums
+unfolding tallyMet
+places-met tally sums p h = passed-all p h
 
 -- over the numbers of each array in turn, the arrays of the taken numbers add up to the counts times how many are taken
-module _ (b bits : List ℕ) (i : ℕ) (l : i < rowsOf b * columnsOf b) where
-  drawn-at : (k j : ℕ) → k < arraysOf b → j < weightOf b k → getD (drawnArray b (sumTo k (weightOf b) + j)) i 0 ≡ countAt b k i
-  drawn-at k j h m =
-      ap (λ (a : List ℕ). getD a i 0) (drawn-is b _ k (record { there = h; before = omega arith; with = omega (arith, sum-more (weightOf b) k) }))
-      ∙ getD-tabulate _ (countIn (drop (offsetOf b (k + 1)) b)) i 0 l
-      ∙ number-drop 2 (offsetOf b (k + 1)) b (2 * i)
+module _ (l : List Weighted) (bits : List ℕ) (i : ℕ) where
+  drawn-at : (k j : ℕ) → k < length l → j < weightAt l k → getD (arrayFor l (weightsBefore l k + j)) i 0 ≡ getD (arrayAt l k .counts) i 0
+  unfolding sumTo
+  drawn-at k j h m = ap (λ (a : List ℕ). getD a i 0) (array-for l _ k h (omega arith) (omega arith))
 
-  taken-before : (k : ℕ) → k ≤ arraysOf b
-      → sumTo (sumTo k (weightOf b)) (λ d. bitOf bits d * getD (drawnArray b d) i 0) ≡ sumTo k (λ j. takenOf b bits j * countAt b j i)
+  taken-before : (k : ℕ) → k ≤ length l → sumTo (weightsBefore l k) (λ d. bitOf bits d * getD (arrayFor l d) i 0) ≡ factored (takenOf l bits) l k i
   unfolding sumTo
   taken-before zero h = refl
   taken-before (suc k) h =
-      sum-add-range (sumTo k (weightOf b)) (weightOf b k) _
+      let count : ℕ = getD (arrayAt l k .counts) i 0 in
+      sum-add-range (weightsBefore l k) (weightAt l k) _
       ∙ ap₂ _+_ (taken-before k (omega arith))
-      (sum-ext (weightOf b k) _ (λ j. countAt b k i * bitOf bits (sumTo k (weightOf b) + j)) (λ j m. rw (drawn-at k j h m) (mul-comm _ (countAt b k i)))
-      ∙ sum-mul (weightOf b k) (countAt b k i) _ ∙ mul-comm (countAt b k i) _)
-
-  pub tally-by : consistent (decode b) ≡ true → (taken : List ℕ) → Counted (arraysOf b) b bits taken → takenSum (decode b) bits i ≡ tallyIn b taken (arraysOf b) i
-  unfolding decode
-  tally-by h taken c =
-      ap (λ (n : ℕ). sumTo n (λ d. bitOf bits d * getD (drawnArray b d) i 0)) (sym (weights-add-up b h))
-      ∙ taken-before (arraysOf b) (omega arith)
-      ∙ sum-ext (arraysOf b) _ _ (λ j m. ap (λ (x : ℕ). x * countAt b j i) (sym (c .each j m)))
+      (sum-ext (weightAt l k) _ (λ j. count * bitOf bits (weightsBefore l k + j)) (λ j m. rw (drawn-at k j h m) (mul-comm _ count))
+      ∙ sum-mul (weightAt l k) count _ ∙ mul-comm count _)
 
 -- the three tests
 spare-by : (d : ℕ) (bits : List ℕ) → spareClear d bits ≡ eqb (bitsSet bits d (8 * ((d + 7) / 8) - d)) 0
@@ -131,67 +195,70 @@ spare-by d bits = sum-none (8 * bitBytes d - d) (λ i. bitOf bits (d + i))
 count-by : (n : ℕ) (bits : List ℕ) → bitsSet bits 0 n ≡ sumTo n (bitOf bits)
 count-by n bits = sum-ext n _ _ (λ j l. ap (bitOf bits) (omega arith))
 
-first-false : {a : Bool} (b c : Bool) → a ≡ false → (a && b && c) ≡ false
-first-false b c h = rw h
-
-second-false : {a b : Bool} (c : Bool) → a ≡ true → b ≡ false → (a && b && c) ≡ false
-second-false c h l = rw (h, l)
-
-first-two : {a b : Bool} (c : Bool) → a ≡ true → b ≡ true → (a && b && c) ≡ c
-first-two c h l = rw (h, l)
-
 module _ {s : Sizes} {b bits tally : List ℕ} (f : Fitted s b bits tally) where
-  laid : Laid (s .rows) (s .columns) (s .arrays) (s .denominator) b
-  laid = opened-laid b s (f .is-open)
+  pub sized : Sized s b
+  sized = opened-sized b s (f .is-open)
 
-  pub spare-asked : (s .denominator ≤ 65535) × (8 * ((s .denominator + 7) / 8) - s .denominator ≤ 65535)
-      × (s .denominator + (8 * ((s .denominator + 7) / 8) - s .denominator) ≤ 8 * length bits)
-  spare-asked = let l = laid .denominator in let r = f .bits-room in (omega arith, omega arith, omega arith)
+  abbrev arrays : List Weighted
+  arrays = decode b .arrays
 
-  pub count-asked : (0 ≤ 65535) × (s .denominator ≤ 65535) × (0 + s .denominator ≤ 8 * length bits)
-  count-asked = let l = laid .denominator in let r = f .bits-room in (omega arith, omega arith, omega arith)
+  abbrev cells : ℕ
+  cells = s .rows * s .columns
 
-  weights : sumTo (s .arrays) (weightOf b) ≡ s .denominator
-  weights = let o = is-open b s (f .is-open) in rw (o .sizes) (weights-add-up b (o .consistent-is))
+  pub spare-asked : Span (s .denominator) (8 * ((s .denominator + 7) / 8) - s .denominator) bits
+  spare-asked = let l = sized-denominator sized in let r = f .bits-room in record { begins = omega arith; few = omega arith; room = omega arith }
 
-  pub numbered : Numbered (s .arrays) b bits
+  pub count-asked : Span 0 (s .denominator) bits
+  count-asked = let l = sized-denominator sized in let r = f .bits-room in record { begins = omega arith; few = omega arith; room = omega arith }
+
+  weights : weightsBefore arrays (length arrays) ≡ s .denominator
+  weights =
+      sym (sum-places (λ a. a .weight) arrays (record { weight = 0; counts = [] }))
+      ∙ weights-add-up b (is-open b s (f .is-open) .opens) ∙ denominator-is sized
+
+  pub numbered : Numbered s b bits
   numbered = record {
-    contents = stored-by laid .contents;
-    few = omega (arith, weights, laid .denominator);
+    sized = sized;
+    few = omega (arith, weights, sized-denominator sized);
     room = omega (arith, weights, f .bits-room);
   }
 
-  pub fitted-stored : Stored (s .arrays) (s .rows * s .columns) b
-  fitted-stored = stored-by laid
+  pub tally-asked : Tally (s .rows * s .columns) tally
+  tally-asked = record { few = sized-few sized; room = f .tally-room }
+
+  -- with the numbers taken of each array, and the sums by them
+  module _ {taken sums : List ℕ} (t : taken ≡ takenNumbers (decode b .arrays) bits) (a : ArraysAdded b taken sums) where
+    sum-is : (i : ℕ) → i < cells → takenSum (decode b) bits i ≡ getD sums i 0
+    sum-is i h =
+        ap (λ (n : ℕ). sumTo n (λ d. bitOf bits d * getD (arrayFor arrays d) i 0)) (denominator-is sized ∙ sym weights)
+        ∙ taken-before arrays bits i (length arrays) (omega arith)
+        ∙ sum-ext (length arrays) _ _
+        (λ j m. ap (λ (x : ℕ). x * getD (arrayAt arrays j .counts) i 0) (sym (taken-at arrays bits j m) ∙ ap (λ (q : List ℕ). getD q j 0) (sym t)))
+        ∙ sym (a .is i (omega (arith, cells-are sized)))
+
+    tally-test : every cells (λ i. eqb (getD tally i 0) (takenSum (decode b) bits i)) ≡ tallyMet cells tally sums
+    unfolding tallyMet
+    tally-test = every-ext cells _ _ (λ i h. ap (eqb (getD tally i 0)) (sum-is i h))
 
   module _ (n : ℕ) where
     fits-parts : fits (decode b) (recordOf n bits tally)
         ≡ (spareClear (s .denominator) bits && eqb n (sumTo (s .denominator) (bitOf bits))
-        && every (s .rows * s .columns) (λ i. eqb (getD tally i 0) (takenSum (decode b) bits i)))
-    unfolding fits decode
-    fits-parts = rw (is-open b s (f .is-open) .sizes)
-
-    tally-test : (taken : List ℕ) → Counted (s .arrays) b bits taken
-        → every (s .rows * s .columns) (λ i. eqb (getD tally i 0) (takenSum (decode b) bits i)) ≡ tallyRight b taken tally (s .arrays) (s .rows * s .columns)
-    tally-test taken c =
-        let o = is-open b s (f .is-open) in
-        let k : s .arrays ≡ arraysOf b = laid .arrays-are in
-        let m : s .rows * s .columns ≡ rowsOf b * columnsOf b = rw (o .sizes) in
-        all-ext _ _ (s .rows * s .columns) (λ i. i) (λ i. i)
-        (λ i l. ap (eqb (getD tally i 0)) (tally-by b bits i (omega arith) (o .consistent-is) taken (rw k at c) ∙ ap (λ (j : ℕ). tallyIn b taken j i) (sym k)))
+        && every cells (λ i. eqb (getD tally i 0) (takenSum (decode b) bits i)))
+    unfolding fits
+    fits-parts = rw (cells-are sized, denominator-is sized)
 
     module _ (x : ℕ) (xe : x ≡ bitsSet bits (s .denominator) (8 * ((s .denominator + 7) / 8) - s .denominator)) where
       pub spare-set : (x ≡ 0 → ⊥) → false ≡ fits (decode b) (recordOf n bits tally)
-      spare-set h = sym (fits-parts ∙ first-false _ _ (spare-by (s .denominator) bits ∙ ne-eqb _ _ (λ q. h (xe ∙ q))))
+      spare-set h = sym (fits-parts ∙ rw (spare-by (s .denominator) bits ∙ ne-eqb _ _ (λ q. h (xe ∙ q))))
 
       module _ (xz : x ≡ 0) (y : ℕ) (ye : y ≡ bitsSet bits 0 (s .denominator)) where
         spare : spareClear (s .denominator) bits ≡ true
         spare = spare-by (s .denominator) bits ∙ eq-eqb _ _ (sym xe ∙ xz)
 
         pub count-off : (y ≡ n → ⊥) → false ≡ fits (decode b) (recordOf n bits tally)
-        count-off h = sym (fits-parts ∙ second-false _ spare (ne-eqb _ _ (λ q. h (ye ∙ count-by (s .denominator) bits ∙ sym q))))
+        count-off h = sym (fits-parts ∙ rw (spare, ne-eqb _ _ (λ q. h (ye ∙ count-by (s .denominator) bits ∙ sym q))))
 
-        pub fits-is : y ≡ n → (taken : List ℕ) → Counted (s .arrays) b bits taken → (t : Bool) → t ≡ tallyRight b taken tally (s .arrays) (s .rows * s .columns)
-            → t ≡ fits (decode b) (recordOf n bits tally)
-        fits-is h taken c t e =
-            e ∙ sym (tally-test taken c) ∙ sym (fits-parts ∙ first-two _ spare (eq-eqb _ _ (sym h ∙ ye ∙ count-by (s .denominator) bits)))
+        pub fits-is : y ≡ n → {taken sums : List ℕ} → taken ≡ takenNumbers (decode b .arrays) bits → ArraysAdded b taken sums
+            → (t : Bool) → t ≡ tallyMet (s .rows * s .columns) tally sums → t ≡ fits (decode b) (recordOf n bits tally)
+        fits-is h g a t e =
+            e ∙ sym (tally-test g a) ∙ sym (fits-parts ∙ rw (spare, eq-eqb _ _ (sym h ∙ ye ∙ count-by (s .denominator) bits)))

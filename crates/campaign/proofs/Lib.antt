@@ -1,15 +1,9 @@
-pub mod Tests
-pub mod Buffers
 pub mod Bits
 pub mod Opened
 pub mod Numbers
-pub mod Draws
 pub mod Steps
 pub mod Runs
 pub mod Campaigns
 pub mod Examples
-pub mod Widths
-pub mod Counting
 pub mod Fitting
 pub mod Calling
-pub mod Walks

@@ -1,110 +1,139 @@
 -- A run: a start and any list of draws. Assumes nothing.
 use mathlib.Core.Path.{_≡_, refl, sym, ap, _∙_, subst}
-use mathlib.Core.Bool.{Bool, true, false, cond}
+use mathlib.Core.Bool.{Bool, true, false, not, cond}
 use mathlib.Core.List.{List, [], _∷_, _++_, map, append-assoc, append-nil}
+use mathlib.Core.Option.{Option, some, none}
 use Prim.Native.Nat.{ℕ}
 use native.Mathlib.Omega.{arith}
 use lib.Dec.{leb, ltb, eqb}
 use lib.ListN.{length, take}
-use borrow.Author.Tests.{ltb-true}
-use Rattle.table.specs.Answer.{after, written}
-use Rattle.table.specs.declared.Answer.{Answer}
-use Rattle.table.specs.declared.Answer.the-variants.{Done, Refused}
-use Rattle.table.specs.declared.Refusal.the-variants.{Buffer, Number, Taken}
-use Rattle.stored.specs.Form.{decode}
-use Rattle.stored.specs.Open.{opens, drawAnswer, drawnArray}
-use Rattle.campaign.specs.Record.{CampaignRecord, bitOf, cellCount, roomFor, startAnswer, campaignAnswer, taking}
-use Rattle.campaign.specs.Claim.{Asked, Made, made, draws, lastRecord, used, answerDue, DrawClaim}
-use Rattle.campaign.proofs.Tests.{under-test}
-use Rattle.campaign.proofs.Buffers.{written-front}
-use Rattle.campaign.proofs.Opened.{sound, laid-out, is-consistent}
+use borrow.Author.Tests.{leb-false}
+use Rattle.base.specs.Buffers.{written}
+use Rattle.base.proofs.Buffers.{written-front}
+use Rattle.refusals.specs.declared.Answer.the-variants.{Done, Refused}
+use Rattle.refusals.specs.declared.Refusal.{Refusal}
+use Rattle.refusals.specs.declared.Refusal.the-variants.{Buffer, Number, Record, Taken}
+use Rattle.refusals.specs.Due.{refuse, due, answerOf, after}
+use Rattle.refusals.proofs.Dues.{due-second, not-here, not-later}
+use Rattle.form.specs.Plan.{Plan, cellCount}
+use Rattle.form.specs.Form.{decode}
+use Rattle.opening.specs.Open.{openTests, openRefusal, Opens, drawRefusal, drawnArray}
+use Rattle.campaign.specs.Record.{CampaignRecord, bitOf, roomFor, startTests, startRefusal, campaignRefusal, taking}
+use Rattle.campaign.specs.Claim.{Asked, Made, made, draws, lastRecord, used, runTests, answerDue, DrawClaim}
+use Rattle.campaign.proofs.Opened.{sound}
 use Rattle.campaign.proofs.Numbers.{array-length}
-use Rattle.campaign.proofs.Steps.{Holds, fits-run, step-refused, step-accepted}
+use Rattle.campaign.proofs.Steps.{RunHolds, fits-run, step-refused, step-accepted}
 
--- the tests that an accepted draw has passed: room for the array, a number below D, and not used
-passed : (u v w : Bool) → cond u (cond v (cond w (Refused Taken) Done) (Refused Number)) (Refused Buffer) ≡ Done → (u ≡ true) × (v ≡ true) × (w ≡ false)
-passed true true true e = (refl, refl, cc)
-passed true true false e = (refl, refl, refl)
-passed true false w e = (refl, cc, cc)
-passed false v w e = (cc, cc, cc)
+-- no draw of a run is refused by 9, and a number below D is taken if it is used
+same-due : (short above unfit taken : Bool) {used : Bool} → unfit ≡ false → (above ≡ false → taken ≡ used)
+    → due (refuse Buffer short ∷ refuse Number above ∷ refuse Record unfit ∷ refuse Taken taken ∷ [])
+    ≡ due (refuse Buffer short ∷ refuse Number above ∷ refuse Taken used ∷ [])
+unfolding due
+same-due true above unfit taken h l = refl
+same-due false true unfit taken h l = refl
+same-due false false unfit taken h l = rw (h, l refl)
 
-unset : (u : Bool) → cond (eqb (cond u 1 0) 0) Done (Refused Taken) ≡ cond u (Refused Taken) Done
-unset true = refl
-unset false = refl
+set-if : (u : Bool) → not (eqb (cond u 1 0) 0) ≡ u
+set-if true = refl
+set-if false = refl
 
-none : {t : Made} {l : List Made} → [] ≡ t ∷ l → ⊥
-none e = let z : _≡_ {A = ℕ} 0 1 = cc in omega arith
+-- an answer tells what was due
+done-none : (o : Option Refusal) → answerOf o ≡ Done → o ≡ none
+unfolding answerOf
+done-none none e = refl
+done-none (some x) e = absurd (let z : _≡_ {A = ℕ} 0 1 = cc in omega arith)
 
-module _ (b : List ℕ) (o : opens b ≡ true) (s₀ : CampaignRecord) (room : roomFor (decode b) s₀ ≡ true) where
-  pub start-done : startAnswer b s₀ ≡ Done
-  unfolding startAnswer
-  start-done = rw (laid-out b o, is-consistent b o, room)
+refused-some : (o : Option Refusal) {x : Refusal} → answerOf o ≡ Refused x → o ≡ some x
+unfolding answerOf
+refused-some none e = absurd (let z : _≡_ {A = ℕ} 0 1 = cc in omega arith)
+refused-some (some y) e = cc
+
+no-draw : {t : Made} {l : List Made} → [] ≡ t ∷ l → ⊥
+no-draw e = let z : _≡_ {A = ℕ} 0 1 = cc in omega arith
+
+-- the tests that an accepted draw has passed
+record Unrefused (p : Plan) (h : List Made) (x : Asked) : Type 0 where
+  room : ltb (length (x .buffer)) (cellCount p) ≡ false
+  below : leb (p .denominator) (x .number) ≡ false
+  new : used h (x .number) ≡ false
+
+module _ (b : List ℕ) (o : Opens b) (s₀ : CampaignRecord) (room : roomFor (decode b) s₀ ≡ true) where
+  start-due : (s : CampaignRecord) → roomFor (decode b) s ≡ true → startRefusal b s ≡ none
+  unfolding startRefusal openRefusal due
+  start-due s h = due-second (openTests b) (refuse Buffer (not (roomFor (decode b) s)) ∷ []) o ∙ simp h
+
+  pub start-done : startRefusal b s₀ ≡ none
+  start-done = start-due s₀ room
 
   -- a draw of a run
-  module _ {h : List Made} {s : CampaignRecord} (holds : Holds (decode b) s₀ h s) (x : Asked) where
+  module _ {h : List Made} {s : CampaignRecord} (holds : RunHolds (decode b) s₀ h s) (x : Asked) where
+    abbrev asked : Option Refusal
+    asked = campaignRefusal b (x .number) s (length (x .buffer))
+
     room-now : roomFor (decode b) s ≡ true
     room-now = rw (holds .claim .bits-length, holds .claim .tally-length) room
 
-    bit-test : ltb (x .number) (decode b .denominator) ≡ true
-        → cond (eqb (bitOf (s .bits) (x .number)) 0) Done (Refused Taken) ≡ cond (used h (x .number)) (Refused Taken) Done
-    bit-test l = rw (holds .claim .bits (x .number) (ltb-true _ _ l)) (unset (used h (x .number)))
+    bit-test : leb (decode b .denominator) (x .number) ≡ false → not (eqb (bitOf (s .bits) (x .number)) 0) ≡ used h (x .number)
+    bit-test l = rw (holds .claim .bits (x .number) (leb-false _ _ l)) (set-if (used h (x .number)))
 
-    -- the answer is the one that 01 says, by the draws before
-    answers : made b s x .answer ≡ answerDue (decode b) h x
-    unfolding made campaignAnswer answerDue
-    answers = rw (laid-out b o, is-consistent b o, room-now, fits-run holds)
-        (ap (λ (a : Answer). cond (leb (cellCount (decode b)) (length (x .buffer))) a (Refused Buffer))
-        (under-test (ltb (x .number) (decode b .denominator)) (Refused Number) bit-test))
+    -- what is due is what 01 says, by the draws before
+    due-by : asked ≡ due (runTests (decode b) h x)
+    unfolding campaignRefusal startRefusal
+    due-by = due-second (startTests b s) _ (start-due s room-now) ∙ same-due _ _ _ _ (ap not (fits-run holds)) bit-test
 
-    tests : made b s x .answer ≡ Done
-        → (leb (cellCount (decode b)) (length (x .buffer)) ≡ true) × (ltb (x .number) (decode b .denominator) ≡ true) × (used h (x .number) ≡ false)
-    unfolding made answerDue
-    tests e = passed _ _ _ (sym answers ∙ e)
+    passed : asked ≡ none → Unrefused (decode b) h x
+    passed e =
+        let d = sym due-by ∙ e in
+        record { room = not-here _ _ d; below = not-here _ _ (not-later _ _ d); new = not-here _ _ (not-later _ _ (not-later _ _ d)) }
 
-    plain-draw : made b s x .answer ≡ Done → drawAnswer b (x .number) (length (x .buffer)) ≡ Done
-    unfolding drawAnswer decode
-    plain-draw e = let t = tests e in rw (laid-out b o, is-consistent b o, t .0, t .1)
+    plain-draw : asked ≡ none → drawRefusal b (x .number) (length (x .buffer)) ≡ none
+    unfolding drawRefusal openRefusal decode due
+    plain-draw e =
+        let t = passed e in
+        due-second (openTests b) (refuse Buffer (ltb (length (x .buffer)) (cellCount (decode b))) ∷ refuse Number (leb (decode b .denominator) (x .number)) ∷ []) o
+        ∙ simp (t .room, t .below)
 
-    result-by : {a : Answer} → made b s x .answer ≡ a → made b s x .result ≡ after a (written (drawnArray b (x .number)) (x .buffer)) (x .buffer)
+    result-by : {k : Option Refusal} → asked ≡ k → made b s x .result ≡ after k (written (drawnArray b (x .number)) (x .buffer)) (x .buffer)
     unfolding made
-    result-by e = ap (λ (a : Answer). after a (written (drawnArray b (x .number)) (x .buffer)) (x .buffer)) e
+    result-by e = rw e
 
-    left-by : {a : Answer} → made b s x .answer ≡ a → made b s x .left ≡ after a (taking (decode b) (x .number) s) s
+    left-by : {k : Option Refusal} → asked ≡ k → made b s x .left ≡ after k (taking (decode b) (x .number) s) s
     unfolding made
-    left-by e = ap (λ (a : Answer). after a (taking (decode b) (x .number) s) s) e
+    left-by e = rw e
 
     pub draw-claim : DrawClaim b h (made b s x)
-    unfolding made
+    unfolding made answerDue after
     draw-claim = record {
-      answer = answers;
-      wrote = λ e. (plain-draw e, result-by e);
-      kept = λ y e. (result-by e, left-by e);
+      answer = ap answerOf due-by;
+      wrote = λ e. let n = done-none _ e in (plain-draw n, result-by n);
+      kept = λ y e. let n = refused-some _ e in (result-by n, left-by n);
     }
 
     -- what stands in the buffer for the array after an accepted draw
-    front : made b s x .answer ≡ Done → take (cellCount (decode b)) (made b s x .result) ≡ drawnArray b (x .number)
-    front e = ap (take (cellCount (decode b))) (result-by e) ∙ written-front _ (x .buffer) (array-length (sound b o) (ltb-true _ _ (tests e .1)))
+    front : asked ≡ none → take (cellCount (decode b)) (made b s x .result) ≡ drawnArray b (x .number)
+    unfolding after
+    front e = ap (take (cellCount (decode b))) (result-by e) ∙ written-front _ (x .buffer) (array-length (sound b o) (leb-false _ _ (passed e .below)))
 
-    pub step : Holds (decode b) s₀ (h ++ (made b s x ∷ [])) (made b s x .left)
-    unfolding made
-    step = go (made b s x .answer) refl
+    pub step : RunHolds (decode b) s₀ (h ++ (made b s x ∷ [])) (made b s x .left)
+    unfolding made after answerOf
+    step = go asked refl
       where
-        go : (a : Answer) → made b s x .answer ≡ a → Holds (decode b) s₀ (h ++ (made b s x ∷ [])) (after a (taking (decode b) (x .number) s) s)
-        go Done e = step-accepted holds room (made b s x) e (ltb-true _ _ (tests e .1)) (tests e .2) (front e)
-        go (Refused y) e = step-refused holds (made b s x) e
+        go : (k : Option Refusal) → asked ≡ k → RunHolds (decode b) s₀ (h ++ (made b s x ∷ [])) (after k (taking (decode b) (x .number) s) s)
+        go none e = step-accepted holds room (made b s x) (ap answerOf e) (leb-false _ _ (passed e .below)) (passed e .new) (front e)
+        go (some y) e = step-refused holds (made b s x) (ap answerOf e)
 
   -- after the draws h, and a list of draws more
-  pub run-holds : {h : List Made} {s : CampaignRecord} → Holds (decode b) s₀ h s → (l : List Asked)
-      → Holds (decode b) s₀ (h ++ draws b s l) (lastRecord s (draws b s l))
+  pub run-holds : {h : List Made} {s : CampaignRecord} → RunHolds (decode b) s₀ h s → (l : List Asked)
+      → RunHolds (decode b) s₀ (h ++ draws b s l) (lastRecord s (draws b s l))
   unfolding draws lastRecord
   run-holds holds [] = rw append-nil holds
   run-holds holds (x ∷ l) = rw append-assoc at (run-holds (step holds x) l)
 
-  pub run-each : {h : List Made} {s : CampaignRecord} → Holds (decode b) s₀ h s → (l : List Asked)
+  pub run-each : {h : List Made} {s : CampaignRecord} → RunHolds (decode b) s₀ h s → (l : List Asked)
       → (earlier : List Made) (t : Made) (later : List Made) → draws b s l ≡ earlier ++ (t ∷ later) → DrawClaim b (h ++ earlier) t
   unfolding draws
-  run-each holds [] [] t later e = absurd (none e)
-  run-each holds [] (u ∷ earlier) t later e = absurd (none e)
+  run-each holds [] [] t later e = absurd (no-draw e)
+  run-each holds [] (u ∷ earlier) t later e = absurd (no-draw e)
   run-each {h} {s} holds (x ∷ l) [] t later e =
       let this : made b s x ≡ t = cc in
       subst (λ (k : Made). DrawClaim b (h ++ []) k) this (rw append-nil (draw-claim holds x))

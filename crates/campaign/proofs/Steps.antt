@@ -1,36 +1,63 @@
--- What holds of the record after each draw of a run. Assumes nothing.
-use mathlib.Core.Path.{_≡_, refl, sym, ap, ap₂, _∙_}
-use mathlib.Core.Bool.{Bool, true, false, cond, or-false}
+-- What one more draw of a run adds, and what holds of the record after it. Assumes nothing.
+use mathlib.Core.Path.{_≡_, sym, ap, _∙_, refl, ap₂}
+use mathlib.Core.Bool.{Bool, cond, _&&_, _||_, or-false, or-assoc, true, false}
 use mathlib.Core.List.{List, [], _∷_, _++_}
 use Prim.Native.Nat.{ℕ, _+_, _/_, _<_, _≤_}
+use native.Mathlib.Nat.{add-zero}
 use native.Mathlib.Omega.{arith}
-use lib.Dec.{leb, eqb}
+use lib.Dec.{eqb, leb}
+use Rattle.base.proofs.Sums.{list-append, sum-ext, sum-zero, sum-one-more}
+use Rattle.base.specs.Lists.{sum, tabulate, sumTo}
+use Rattle.refusals.specs.declared.Answer.{Answer}
+use Rattle.refusals.specs.declared.Answer.the-variants.{Done, Refused}
+use Rattle.refusals.specs.declared.Refusal.{Refusal}
+use Rattle.campaign.specs.Claim.{Made, isDone, used, overAccepted, RecordClaim}
 use lib.ListN.{length, getD, take, replicate, length-set, length-replicate, getD-replicate}
 use lib.Seq.{drop-set-lt}
 use borrow.Author.Tests.{leb-true, eq-eqb, ne-eqb}
-use Rattle.table.specs.Lists.{tabulate, sum, sumTo}
 use Rattle.table.specs.Table.{total}
-use Rattle.table.specs.declared.Answer.the-variants.{Done, Refused}
-use Rattle.table.specs.declared.Refusal.{Refusal}
-use Rattle.table.proofs.Lists.{and-left, and-right, length-tabulate, getD-tabulate, all-tabulate}
-use Rattle.table.proofs.Sums.{sum-ext, sum-zero, sum-one-more}
-use Rattle.stored.specs.Plan.{Plan, arrayFor}
-use Rattle.campaign.specs.Record.{CampaignRecord, bitOf, bitBytes, cellCount, spareClear, takenSum, fits, roomFor, started, taking}
-use Rattle.campaign.specs.Claim.{Made, used, overAccepted, RecordClaim}
-use Rattle.campaign.proofs.Tests.{test-times, test-or}
-use Rattle.campaign.proofs.Buffers.{written-at, written-length, written-beyond}
+use Rattle.base.proofs.Lists.{and-left, and-right, length-tabulate, getD-tabulate, all-tabulate}
+use Rattle.form.specs.Plan.{Plan, cellCount, arrayFor}
+use Rattle.campaign.specs.Record.{CampaignRecord, bitOf, bitBytes, spareClear, takenSum, fits, roomFor, started, taking}
+use Rattle.base.proofs.Tests.{test-times, test-or}
+use Rattle.base.proofs.Buffers.{written-at, written-length, written-beyond}
 use Rattle.campaign.proofs.Bits.{bit-set, bit-clear}
 use Rattle.campaign.proofs.Numbers.{total-one}
-use Rattle.campaign.proofs.Draws.{used-accepted, over-accepted, used-refused, over-refused}
+
+used-more : (h : List Made) (t : Made) (d : ℕ) → used (h ++ (t ∷ [])) d ≡ (used h d || isDone (t .answer) && eqb (t .asked .number) d)
+unfolding used
+used-more [] t d = or-false (isDone (t .answer) && eqb (t .asked .number) d)
+used-more (u ∷ h) t d =
+    let first : Bool = isDone (u .answer) && eqb (u .asked .number) d in
+    ap (λ (x : Bool). first || x) (used-more h t d) ∙ sym (or-assoc first (used h d) _)
+
+over-more : (f : Made → ℕ) (h : List Made) (t : Made) → overAccepted f (h ++ (t ∷ [])) ≡ overAccepted f h + cond (isDone (t .answer)) (f t) 0
+unfolding overAccepted sum
+over-more f h t = omega (arith, list-append (λ x. cond (isDone (x .answer)) (f x) 0) h (t ∷ []))
+
+module _ (h : List Made) (t : Made) where
+  module _ (a : t .answer ≡ Done) where
+    pub used-accepted : (d : ℕ) → used (h ++ (t ∷ [])) d ≡ (used h d || eqb (t .asked .number) d)
+    used-accepted d = used-more h t d ∙ ap (λ (x : Answer). used h d || isDone x && eqb (t .asked .number) d) a
+
+    pub over-accepted : (f : Made → ℕ) → overAccepted f (h ++ (t ∷ [])) ≡ overAccepted f h + f t
+    over-accepted f = over-more f h t ∙ ap (λ (x : Answer). overAccepted f h + cond (isDone x) (f t) 0) a
+
+  module _ {x : Refusal} (a : t .answer ≡ Refused x) where
+    pub used-refused : (d : ℕ) → used (h ++ (t ∷ [])) d ≡ used h d
+    used-refused d = used-more h t d ∙ ap (λ (y : Answer). used h d || isDone y && eqb (t .asked .number) d) a ∙ or-false (used h d)
+
+    pub over-refused : (f : Made → ℕ) → overAccepted f (h ++ (t ∷ [])) ≡ overAccepted f h
+    over-refused f = over-more f h t ∙ ap (λ (y : Answer). overAccepted f h + cond (isDone y) (f t) 0) a ∙ add-zero (overAccepted f h)
 
 -- After the draws h of a run on plan p, started with record s₀, the record is s, as the claim says. And any number that arrays have comes to the same,
 -- added up over the arrays that accepted draws wrote out and over the arrays of the used numbers: each of these was accepted once.
-pub record Holds (p : Plan) (s₀ : CampaignRecord) (h : List Made) (s : CampaignRecord) : Type 0 where
+pub record RunHolds (p : Plan) (s₀ : CampaignRecord) (h : List Made) (s : CampaignRecord) : Type 0 where
   pub claim : RecordClaim p s₀ h s
   pub spent : (f : List ℕ → ℕ)
       → overAccepted (λ t. f (take (cellCount p) (t .result))) h ≡ sumTo (p .denominator) (λ d. cond (used h d) (f (arrayFor (p .arrays) d)) 0)
 
-module _ {p : Plan} {s₀ s : CampaignRecord} {h : List Made} (holds : Holds p s₀ h s) where
+module _ {p : Plan} {s₀ s : CampaignRecord} {h : List Made} (holds : RunHolds p s₀ h s) where
   -- count and tally by the bits, as a fitting record has them
   count-bits : s .taken ≡ sumTo (p .denominator) (bitOf (s .bits))
   count-bits = holds .claim .count ∙ holds .spent (λ a. 1) ∙ sum-ext (p .denominator) _ _ (λ d l. sym (holds .claim .bits d l))
@@ -51,7 +78,7 @@ module _ {p : Plan} {s₀ s : CampaignRecord} {h : List Made} (holds : Holds p s
       rw (spare, count, tally)
 
   -- a refused draw changes nothing
-  pub step-refused : (t : Made) {x : Refusal} → t .answer ≡ Refused x → Holds p s₀ (h ++ (t ∷ [])) s
+  pub step-refused : (t : Made) {x : Refusal} → t .answer ≡ Refused x → RunHolds p s₀ (h ++ (t ∷ [])) s
   step-refused t a = record {
     claim = record {
       count = holds .claim .count ∙ sym (over-refused h t a _);
@@ -68,14 +95,14 @@ module _ {p : Plan} {s₀ s : CampaignRecord} {h : List Made} (holds : Holds p s
 
 -- what a record long enough means
 module _ (p : Plan) (s : CampaignRecord) (room : roomFor p s ≡ true) where
-  room-bits : bitBytes (p .denominator) ≤ length (s .bits)
+  pub room-bits : bitBytes (p .denominator) ≤ length (s .bits)
   room-bits = leb-true _ _ (and-left (leb (bitBytes (p .denominator)) (length (s .bits))) (leb (cellCount p) (length (s .tally))) room)
 
-  room-tally : cellCount p ≤ length (s .tally)
+  pub room-tally : cellCount p ≤ length (s .tally)
   room-tally = leb-true _ _ (and-right (leb (bitBytes (p .denominator)) (length (s .bits))) (leb (cellCount p) (length (s .tally))) room)
 
 -- an accepted draw of an unused number
-module _ {p : Plan} {s₀ s : CampaignRecord} {h : List Made} (holds : Holds p s₀ h s) (room : roomFor p s₀ ≡ true) (t : Made)
+module _ {p : Plan} {s₀ s : CampaignRecord} {h : List Made} (holds : RunHolds p s₀ h s) (room : roomFor p s₀ ≡ true) (t : Made)
     (a : t .answer ≡ Done) (below : t .asked .number < p .denominator) (new : used h (t .asked .number) ≡ false)
     (wrote : take (cellCount p) (t .result) ≡ arrayFor (p .arrays) (t .asked .number)) where
   set-bit : (e : ℕ) → bitOf (taking p (t .asked .number) s .bits) e ≡ cond (eqb (t .asked .number) e) 1 (bitOf (s .bits) e)
@@ -102,7 +129,7 @@ module _ {p : Plan} {s₀ s : CampaignRecord} {h : List Made} (holds : Holds p s
         tally-length = written-length c (s .tally) ce (omega (arith, room-tally p s₀ room, holds .claim .tally-length)) ∙ holds .claim .tally-length;
       }
 
-  pub step-accepted : Holds p s₀ (h ++ (t ∷ [])) (taking p (t .asked .number) s)
+  pub step-accepted : RunHolds p s₀ (h ++ (t ∷ [])) (taking p (t .asked .number) s)
   step-accepted = record {
     claim = claim-accepted;
     spent = λ f.
@@ -114,7 +141,7 @@ module _ {p : Plan} {s₀ s : CampaignRecord} {h : List Made} (holds : Holds p s
 
 -- a start clears the record
 module _ (p : Plan) (s₀ : CampaignRecord) (room : roomFor p s₀ ≡ true) where
-  pub step-start : Holds p s₀ [] (started p s₀)
+  pub step-start : RunHolds p s₀ [] (started p s₀)
   unfolding started overAccepted sum used
   step-start =
       let b : List ℕ = replicate (bitBytes (p .denominator)) 0 in

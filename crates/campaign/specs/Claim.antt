@@ -2,21 +2,23 @@
 use mathlib.Core.Path.{_≡_}
 use mathlib.Core.Bool.{Bool, true, false, cond, _&&_, _||_}
 use mathlib.Core.List.{List, [], _∷_, _++_, map, List·Memᴰ as Member}
+use mathlib.Core.Option.{none}
 use Prim.Native.Nat.{ℕ, _+_, _*_, _<_, _≤_}
 use lib.ListN.{length, getD, take, drop}
 use lib.Dec.{leb, ltb, eqb}
-use Rattle.table.specs.Lists.{sum, sumTo}
+use Rattle.base.specs.Lists.{sum, sumTo}
 use Rattle.table.specs.Table.{total}
 use Rattle.table.specs.Whole.{down, up}
-use Rattle.table.specs.Answer.{after, written}
-use Rattle.table.specs.declared.Answer.{Answer}
-use Rattle.table.specs.declared.Answer.the-variants.{Done, Refused}
-use Rattle.table.specs.declared.Refusal.{Refusal}
-use Rattle.table.specs.declared.Refusal.the-variants.{Buffer, Number, Taken}
-use Rattle.stored.specs.Plan.{Plan, arrayFor}
-use Rattle.stored.specs.Form.{decode}
-use Rattle.stored.specs.Open.{heldTo, opens, drawAnswer, drawnArray}
-use Rattle.campaign.specs.Record.{CampaignRecord, bitOf, bitBytes, cellCount, roomFor, startAnswer, started, campaignAnswer, taking}
+use Rattle.base.specs.Buffers.{written}
+use Rattle.refusals.specs.declared.Answer.{Answer}
+use Rattle.refusals.specs.declared.Answer.the-variants.{Done, Refused}
+use Rattle.refusals.specs.declared.Refusal.{Refusal}
+use Rattle.refusals.specs.declared.Refusal.the-variants.{Buffer, Number, Taken}
+use Rattle.refusals.specs.Due.{Test, refuse, due, answerOf, after}
+use Rattle.form.specs.Plan.{Plan, cellCount, arrayFor}
+use Rattle.form.specs.Form.{decode}
+use Rattle.opening.specs.Open.{heldTo, Opens, drawRefusal, drawnArray}
+use Rattle.campaign.specs.Record.{CampaignRecord, bitOf, bitBytes, roomFor, startRefusal, started, campaignRefusal, taking}
 
 -- a draw that is asked for: "any number, and a buffer for the array, of any length"
 pub record Asked : Type 0 where
@@ -33,13 +35,13 @@ pub record Made : Type 0 where
 
 unfoldable pub made : List ℕ → CampaignRecord → Asked → Made
 made b s x =
-    let a = campaignAnswer b (x .number) s (length (x .buffer)) in
+    let o = campaignRefusal b (x .number) s (length (x .buffer)) in
     record {
       asked = x;
       given = s;
-      answer = a;
-      left = after a (taking (decode b) (x .number) s) s;
-      result = after a (written (drawnArray b (x .number)) (x .buffer)) (x .buffer);
+      answer = answerOf o;
+      left = after o (taking (decode b) (x .number) s) s;
+      result = after o (written (drawnArray b (x .number)) (x .buffer)) (x .buffer);
     }
 
 -- "a list of campaign draws of any length, refused ones included. Each draw gets the plan's unchanged bytes, the record as the call before it left it"
@@ -78,13 +80,15 @@ unfoldable pub unused : Plan → List Made → List ℕ → ℕ
 unused p l s = sumTo (p .denominator) (λ d. cond (used l d) 0 (total (arrayFor (p .arrays) d) s))
 
 -- "A draw returns 7 if its buffer is too short for the array, else 8 if its number is not below D, else 10 if it is used; otherwise it is accepted."
+abbrev pub runTests : Plan → List Made → Asked → List Test
+runTests p earlier x =
+    refuse Buffer (ltb (length (x .buffer)) (cellCount p))
+    ∷ refuse Number (leb (p .denominator) (x .number))
+    ∷ refuse Taken (used earlier (x .number))
+    ∷ []
+
 unfoldable pub answerDue : Plan → List Made → Asked → Answer
-answerDue p earlier x =
-    cond (leb (cellCount p) (length (x .buffer)))
-    (cond (ltb (x .number) (p .denominator))
-    (cond (used earlier (x .number)) (Refused Taken) Done)
-    (Refused Number))
-    (Refused Buffer)
+answerDue p earlier x = answerOf (due (runTests p earlier x))
 
 -- what holds of one draw of the list, with the draws before it
 pub record DrawClaim (b : List ℕ) (earlier : List Made) (t : Made) : Type 0 where
@@ -92,7 +96,7 @@ pub record DrawClaim (b : List ℕ) (earlier : List Made) (t : Made) : Type 0 wh
   pub answer : t .answer ≡ answerDue (decode b) earlier (t .asked)
   -- an accepted draw wrote the array that belongs to its number, which is what the plain draw gives, and left its buffer's rest
   pub wrote : t .answer ≡ Done
-      → (drawAnswer b (t .asked .number) (length (t .asked .buffer)) ≡ Done) × (t .result ≡ written (drawnArray b (t .asked .number)) (t .asked .buffer))
+      → (drawRefusal b (t .asked .number) (length (t .asked .buffer)) ≡ none) × (t .result ≡ written (drawnArray b (t .asked .number)) (t .asked .buffer))
   -- a refused draw left buffer and record as they were
   pub kept : (x : Refusal) → t .answer ≡ Refused x → (t .result ≡ t .asked .buffer) × (t .left ≡ t .given)
 
@@ -111,7 +115,7 @@ pub record RecordClaim (p : Plan) (s₀ : CampaignRecord) (run : List Made) (end
 -- what holds of a start on bytes b that open, with a record s₀, and then the list l of draws
 pub record RunClaim (b : List ℕ) (s₀ : CampaignRecord) (l : List Asked) (p : Plan) (run : List Made) (end : CampaignRecord) : Type 0 where
   -- "A start on a plan that opens, with a record long enough, is accepted, whatever the record held before."
-  pub start : startAnswer b s₀ ≡ Done
+  pub start : startRefusal b s₀ ≡ none
   -- the draws made are those asked for, each as claimed
   pub asked : map (λ t. t .asked) run ≡ l
   pub each : (earlier : List Made) (t : Made) (later : List Made) → run ≡ earlier ++ (t ∷ later) → DrawClaim b earlier t
@@ -128,7 +132,7 @@ pub record RunClaim (b : List ℕ) (s₀ : CampaignRecord) (l : List Asked) (p :
 -- "It is a single claim about the list": for bytes that open and a record long enough
 abbrev pub Claim : Type 0
 Claim =
-    (b : List ℕ) (s₀ : CampaignRecord) (l : List Asked) → opens b ≡ true → roomFor (decode b) s₀ ≡ true
+    (b : List ℕ) (s₀ : CampaignRecord) (l : List Asked) → Opens b → roomFor (decode b) s₀ ≡ true
     → let s = started (decode b) s₀ in
     let run = draws b s l in
     RunClaim b s₀ l (decode b) run (lastRecord s run)

@@ -3,15 +3,15 @@ use mathlib.Core.Bool.{Bool, true, false}
 use mathlib.Core.List.{List, [], _∷_, _++_, map}
 use Prim.Native.Nat.{ℕ}
 use lib.Dec.{ltb}
-use Rattle.table.specs.Lists.{tabulate, joinTo, sum, sumTo, all}
+use Rattle.base.specs.Lists.{tabulate, joinTo, sum, sumTo, all}
 use Rattle.table.specs.Table.{lines, total}
 use Rattle.table.specs.Whole.{whole, roundsTo}
-use Rattle.table.specs.Answer.{answerNumber, after}
-use Rattle.stored.specs.Plan.{Weighted, Plan, arrayFor}
-use Rattle.stored.specs.Form.{bytes, number, head, entry, encode, decode, headRight, laidOut}
-use Rattle.stored.specs.Open.{heldTo, consistent, opens}
-use Rattle.campaign.specs.Record.{CampaignRecord, bitOf, fits, startAnswer, started, campaignAnswer, taking}
-use Rattle.campaign.specs.Calls.{recordOf}
+use Rattle.refusals.specs.Answer.{answerNumber}
+use Rattle.refusals.specs.Due.{due, noneApplies, answerOf, after}
+use Rattle.form.specs.Plan.{Weighted, Plan, arrayFor}
+use Rattle.form.specs.Form.{bytes, number, head, contentsEntry, encode, decode, headRight, laidOut}
+use Rattle.opening.specs.Open.{heldTo, consistent, openTests}
+use Rattle.campaign.specs.Record.{CampaignRecord, recordOf, bitOf, fits, startRefusal, started, campaignRefusal, taking}
 use Rattle.campaign.specs.Claim.{Asked, made, draws, lastRecord, used, overAccepted, accepted, drawn, unused, answerDue}
 
 abbrev pub array : ℕ → List ℕ → Weighted
@@ -19,7 +19,7 @@ array w n = record { weight = w; counts = n }
 
 -- a plan's bytes
 unfoldable pub stored : Plan → List ℕ
-unfolding bytes head entry encode joinTo
+unfolding bytes head contentsEntry encode joinTo
 stored p = encode p
 
 -- the third example of 01: D 2, two by two, all cells 1; the weights are 1 each there, and others do not add up to D
@@ -55,13 +55,13 @@ pub record Row : Type 0 where
   pub outcome : Outcome
 
 unfoldable pub outcomeOf : List ℕ → CampaignRecord → Call → Outcome
-unfolding stored number decode headRight laidOut consistent opens tabulate sum sumTo all lines total whole roundsTo arrayFor bitOf fits startAnswer started campaignAnswer taking made
+unfolding stored number decode headRight laidOut consistent due answerOf after tabulate sum sumTo all lines total whole roundsTo arrayFor bitOf fits startRefusal started campaignRefusal taking made
 outcomeOf b s start =
-    let a = startAnswer b s in
-    record { opened = opens b; answer = answerNumber a; left = after a (started (decode b) s) s; result = [] }
+    let o = startRefusal b s in
+    record { opened = noneApplies (openTests b); answer = answerNumber (answerOf o); left = after o (started (decode b) s) s; result = [] }
 outcomeOf b s (draw d buffer) =
     let m = made b s (record { number = d; buffer = buffer }) in
-    record { opened = opens b; answer = answerNumber (m .answer); left = m .left; result = m .result }
+    record { opened = noneApplies (openTests b); answer = answerNumber (m .answer); left = m .left; result = m .result }
 
 -- a call that is accepted, and one that is refused, which changes nothing; 5 and 6 are for plans that do not open
 abbrev pub does : List ℕ → CampaignRecord → Call → CampaignRecord → List ℕ → Row

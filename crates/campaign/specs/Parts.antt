@@ -1,48 +1,74 @@
 -- What inner functions are held to: parts of the definitions of Record. No public contract cites them. Assumes nothing.
 use mathlib.Core.Path.{_≡_}
-use mathlib.Core.Bool.{Bool, cond, _&&_}
+use mathlib.Core.Bool.{Bool}
 use mathlib.Core.List.{List}
+use mathlib.Core.Option.{Option}
 use Prim.Native.Nat.{ℕ, _+_, _*_, _<_, _≤_}
-use lib.ListN.{length, getD}
-use lib.Dec.{leb, eqb}
-use Rattle.table.specs.Lists.{sumTo, every}
-use Rattle.table.specs.Table.{maxArrays, maxDenominator}
-use Rattle.table.specs.declared.Answer.{Answer}
-use Rattle.table.specs.declared.Answer.the-variants.{Done, Refused}
-use Rattle.table.specs.declared.Refusal.the-variants.{Buffer}
-use Rattle.stored.specs.declared.Sizes.{Sizes}
-use Rattle.stored.specs.declared.Opened.{Opened}
-use Rattle.stored.specs.declared.Opened.the-variants as opened
-use Rattle.stored.specs.Form.{sizesOf}
-use Rattle.stored.specs.Open.{openAnswer}
-use Rattle.stored.specs.Parts.{weightOf, countAt, Contents}
+use lib.ListN.{length, getD, replicate}
+use lib.Dec.{eqb}
+use Rattle.base.specs.Lists.{tabulate, sumTo, every}
+use Rattle.base.specs.Buffers.{written}
+use Rattle.table.specs.Table.{maxCells, maxArrays, maxDenominator}
+use Rattle.refusals.specs.declared.Refusal.{Refusal}
+use Rattle.refusals.specs.Due.{refusedOr}
+use Rattle.form.specs.declared.Sizes.{Sizes}
+use Rattle.form.specs.Plan.{Weighted, arrayAt, cellCount}
+use Rattle.form.specs.Form.{sizesOf, decode}
+use Rattle.opening.specs.declared.Opened.{Opened}
+use Rattle.opening.specs.declared.Opened.the-variants as opened
+use Rattle.opening.specs.Open.{openAnswer}
+use Rattle.opening.specs.Weighted.{Addable}
+use Rattle.form.specs.Parts.{Sized}
+use Rattle.opening.specs.Parts.{weightsBefore, weightAt, SumsTo}
 use Rattle.campaign.specs.Record.{bitOf, bitBytes}
 
 -- how many of `count` bits from `from` on are set
 abbrev pub bitsSet : List ℕ → ℕ → ℕ → ℕ
 bitsSet bits from count = sumTo count (λ j. bitOf bits (from + j))
 
+-- `count` bits from `from` on are there, and the code's sums of them stay small
+pub record Span (from count : ℕ) (bits : List ℕ) : Type 0 where
+  pub begins : from ≤ maxDenominator
+  pub few : count ≤ maxDenominator
+  pub room : from + count ≤ 8 * length bits
+
+-- bit d is there and not set
+pub record Unset (d : ℕ) (bits : List ℕ) : Type 0 where
+  pub there : d < 8 * length bits
+  pub unset : bitOf bits d ≡ 0
+
 -- the numbers of array k, counted from 0, begin after the weights before it: how many of them are taken
-abbrev pub takenOf : List ℕ → List ℕ → ℕ → ℕ
-takenOf b bits k = bitsSet bits (sumTo k (weightOf b)) (weightOf b k)
+abbrev pub takenOf : List Weighted → List ℕ → ℕ → ℕ
+takenOf l bits k = bitsSet bits (weightsBefore l k) (weightAt l k)
 
--- the bits are enough for the numbers of k arrays
-pub record Numbered (k : ℕ) (b bits : List ℕ) : Type 0 where
-  pub contents : Contents k b
-  pub few : sumTo k (weightOf b) ≤ maxDenominator
-  pub room : sumTo k (weightOf b) ≤ 8 * length bits
+-- how many numbers of each array are taken, in a list of as many as a plan can have, and 0 beyond the arrays
+unfoldable pub takenNumbers : List Weighted → List ℕ → List ℕ
+takenNumbers l bits = written (tabulate (length l) (takenOf l bits)) (replicate maxArrays 0)
 
--- how many numbers of each of k arrays are taken, in a list of as many as a plan can have
-pub record Counted (k : ℕ) (b bits taken : List ℕ) : Type 0 where
-  pub len : length taken ≡ maxArrays
-  pub each : (j : ℕ) → j < k → getD taken j 0 ≡ takenOf b bits j
+-- the bits are enough for the numbers of all arrays of a plan
+pub record Numbered (s : Sizes) (b bits : List ℕ) : Type 0 where
+  pub sized : Sized s b
+  pub few : weightsBefore (decode b .arrays) (length (decode b .arrays)) ≤ maxDenominator
+  pub room : weightsBefore (decode b .arrays) (length (decode b .arrays)) ≤ 8 * length bits
 
--- the count at place i times how many numbers of its array are taken, added up over k arrays
-abbrev pub tallyIn : List ℕ → List ℕ → ℕ → ℕ → ℕ
-tallyIn b taken k i = sumTo k (λ j. getD taken j 0 * countAt b j i)
+-- a plan has an array k, counted from 0, which can be added to some sums
+pub record ArrayAddable (s : Sizes) (b : List ℕ) (k : ℕ) (sums : List ℕ) : Type 0 where
+  pub sized : Sized s b
+  pub there : k < s .arrays
+  pub addable : Addable (arrayAt (decode b .arrays) k .counts) sums
 
-abbrev pub tallyRight : List ℕ → List ℕ → List ℕ → ℕ → ℕ → Bool
-tallyRight b taken tally k n = every n (λ i. eqb (getD tally i 0) (tallyIn b taken k i))
+-- for each cell the counts of all arrays, each times the number for it, added up
+abbrev pub ArraysAdded : List ℕ → List ℕ → List ℕ → Type 0
+ArraysAdded b taken sums = SumsTo (λ j. getD taken j 0) (decode b .arrays) (cellCount (decode b)) (length (decode b .arrays)) sums
+
+-- a tally of n cells, of as many as a table can have
+pub record Tally (n : ℕ) (tally : List ℕ) : Type 0 where
+  pub few : n ≤ maxCells
+  pub room : n ≤ length tally
+
+-- the first n numbers of the tally are the sums
+unfoldable pub tallyMet : ℕ → List ℕ → List ℕ → Bool
+tallyMet n tally sums = every n (λ i. eqb (getD tally i 0) (getD sums i 0))
 
 -- an opened plan, with its sizes, and buffers not shorter than a record of it
 pub record Fitted (s : Sizes) (b bits tally : List ℕ) : Type 0 where
@@ -51,22 +77,11 @@ pub record Fitted (s : Sizes) (b bits tally : List ℕ) : Type 0 where
   pub tally-room : s .rows * s .columns ≤ length tally
 
 -- the first n numbers of two lists fit in 32 bits when added
-pub record Addable (n : ℕ) (counts tally : List ℕ) : Type 0 where
+pub record Addends (n : ℕ) (counts tally : List ℕ) : Type 0 where
   pub counts-room : n ≤ length counts
   pub tally-room : n ≤ length tally
   pub small : (i : ℕ) → i < n → getD tally i 0 + getD counts i 0 < 4294967296
 
--- the sizes of an opened plan if the next test passes, else its refusal
-abbrev pub ifOpened : Opened → (Sizes → Opened) → Opened
-ifOpened (opened.Plan s) next = next s
-ifOpened (opened.Refused x) next = opened.Refused x
-
--- the sizes of a plan that opens and whose record buffers of m bytes and n numbers can hold, or the refusal
-unfoldable pub openFor : List ℕ → ℕ → ℕ → Opened
-openFor b m n = ifOpened (openAnswer b)
-    (λ s. cond (leb (bitBytes (s .denominator)) m && leb (s .rows * s .columns) n) (opened.Plan s) (opened.Refused Buffer))
-
--- the sizes of a plan that a call accepts, or its refusal
-abbrev pub orRefused : Answer → List ℕ → Opened
-orRefused Done b = opened.Plan (sizesOf b)
-orRefused (Refused x) b = opened.Refused x
+-- the sizes of the plan that a call goes on with, or the refusal that is due
+unfoldable pub sizesOr : List ℕ → Option Refusal → Opened
+sizesOr b o = refusedOr opened.Refused (opened.Plan (sizesOf b)) o

@@ -1,23 +1,28 @@
 -- The campaign record, a start and a campaign draw (01, "Campaign record" and "Turned back"). Assumes nothing.
-use mathlib.Core.Bool.{Bool, cond, _&&_}
-use mathlib.Core.List.{List}
+use mathlib.Core.Bool.{Bool, not, _&&_}
+use mathlib.Core.List.{List, [], _∷_, _++_}
+use mathlib.Core.Option.{Option}
 use Prim.Native.Nat.{ℕ, _+_, _-_, _*_, _/_, _%_, _^_}
 use lib.ListN.{length, getD, set, replicate}
 use lib.Dec.{leb, ltb, eqb}
-use Rattle.table.specs.Lists.{tabulate, sumTo, every}
-use Rattle.table.specs.Answer.{written}
-use Rattle.table.specs.declared.Answer.{Answer}
-use Rattle.table.specs.declared.Answer.the-variants.{Done, Refused}
-use Rattle.table.specs.declared.Refusal.the-variants.{Buffer, Number, Record, Taken}
-use Rattle.stored.specs.Plan.{Plan, arrayFor}
-use Rattle.stored.specs.Form.{decode}
-use Rattle.stored.specs.Open.{ifOpen}
+use Rattle.base.specs.Lists.{tabulate, sumTo, every}
+use Rattle.base.specs.Buffers.{written}
+use Rattle.refusals.specs.declared.Refusal.{Refusal}
+use Rattle.refusals.specs.declared.Refusal.the-variants.{Buffer, Number, Record, Taken}
+use Rattle.refusals.specs.Due.{Test, refuse, due}
+use Rattle.form.specs.Plan.{Plan, cellCount, arrayFor}
+use Rattle.form.specs.Form.{decode}
+use Rattle.opening.specs.Open.{openTests}
 
 -- "The record is the count of numbers taken (32 bits); D bits [..]; and a tally of r·c numbers of 32 bits."
 pub record CampaignRecord : Type 0 where
   pub taken : ℕ
   pub bits : List ℕ
   pub tally : List ℕ
+
+-- the record of its parts
+abbrev pub recordOf : ℕ → List ℕ → List ℕ → CampaignRecord
+recordOf taken bits tally = record { taken = taken; bits = bits; tally = tally }
 
 -- "number d in bit d mod 8 (lowest first) of byte d / 8"
 unfoldable pub bitOf : List ℕ → ℕ → ℕ
@@ -26,10 +31,6 @@ bitOf bits d = getD bits (d / 8) 0 / 2 ^ (d % 8) % 2
 -- how many bytes the bits of a denominator take
 abbrev pub bitBytes : ℕ → ℕ
 bitBytes denominator = (denominator + 7) / 8
-
--- how many cells a plan's table has
-abbrev pub cellCount : Plan → ℕ
-cellCount p = p .rows * p .columns
 
 -- "the spare bits are zero"
 abbrev pub spareClear : ℕ → List ℕ → Bool
@@ -50,9 +51,12 @@ fits p s =
 abbrev pub roomFor : Plan → CampaignRecord → Bool
 roomFor p s = leb (bitBytes (p .denominator)) (length (s .bits)) && leb (cellCount p) (length (s .tally))
 
--- the call "campaign start": 5, 6, 7, the lowest that applies
-unfoldable pub startAnswer : List ℕ → CampaignRecord → Answer
-startAnswer b s = ifOpen b (cond (roomFor (decode b) s) Done (Refused Buffer))
+-- the refusals of the call "campaign start": those of opening; 7, a buffer of the record is too short
+abbrev pub startTests : List ℕ → CampaignRecord → List Test
+startTests b s = openTests b ++ (refuse Buffer (not (roomFor (decode b) s)) ∷ [])
+
+unfoldable pub startRefusal : List ℕ → CampaignRecord → Option Refusal
+startRefusal b s = due (startTests b s)
 
 -- "A start sets all of it to zero." "Bytes and numbers beyond those needed are never touched."
 unfoldable pub started : Plan → CampaignRecord → CampaignRecord
@@ -62,18 +66,20 @@ started p s = record {
   tally = written (replicate (cellCount p) 0) (s .tally);
 }
 
--- the call "campaign draw": 5, 6, 7, 8, 9, 10, the lowest that applies, with a buffer of `room` counts for the array
-unfoldable pub campaignAnswer : List ℕ → ℕ → CampaignRecord → ℕ → Answer
-campaignAnswer b d s room =
+-- the refusals of the call "campaign draw", with a buffer of `room` counts for the array: those of a start; 7, this buffer is too short;
+-- 8, the number is not below D; 9, the record does not fit the plan; 10, the number is taken
+abbrev pub campaignTests : List ℕ → ℕ → CampaignRecord → ℕ → List Test
+campaignTests b d s room =
     let p = decode b in
-    ifOpen b
-    (cond (roomFor p s && leb (cellCount p) room)
-    (cond (ltb d (p .denominator))
-    (cond (fits p s)
-    (cond (eqb (bitOf (s .bits) d) 0) Done (Refused Taken))
-    (Refused Record))
-    (Refused Number))
-    (Refused Buffer))
+    startTests b s
+    ++ (refuse Buffer (ltb room (cellCount p))
+    ∷ refuse Number (leb (p .denominator) d)
+    ∷ refuse Record (not (fits p s))
+    ∷ refuse Taken (not (eqb (bitOf (s .bits) d) 0))
+    ∷ [])
+
+unfoldable pub campaignRefusal : List ℕ → ℕ → CampaignRecord → ℕ → Option Refusal
+campaignRefusal b d s room = due (campaignTests b d s room)
 
 -- "Apart from setting the bit and adding the array to the tally, an accepted draw updates the campaign's count of numbers taken in the caller's record."
 unfoldable pub taking : Plan → ℕ → CampaignRecord → CampaignRecord

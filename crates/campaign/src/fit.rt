@@ -1,59 +1,63 @@
 // Whether a campaign record fits a plan: refusal 9.
 ghost use mathlib.Core.Path.{_≡_};
-ghost use Prim.Native.Nat.{_+_, _*_, _<_, _≤_};
-ghost use lib.ListN.{length};
-ghost use Rattle.table.specs.Table.{maxArrays};
-ghost use Rattle.stored.specs.Form.{decode};
-ghost use Rattle.stored.specs.Parts.{Reached, Stored};
-ghost use Rattle.campaign.specs.Record.{fits};
-ghost use Rattle.campaign.specs.Calls.{recordOf};
-ghost use Rattle.campaign.specs.Parts.{Numbered, Counted, tallyIn, tallyRight, Fitted};
+ghost use Rattle.form.specs.Plan.{arrayAt};
+ghost use Rattle.form.specs.Form.{decode};
+ghost use Rattle.opening.specs.Weighted.{Increased};
+ghost use Rattle.form.specs.Parts.{Sized};
+ghost use Rattle.campaign.specs.Record.{recordOf, fits};
+ghost use Rattle.campaign.specs.Parts.{Numbered, takenNumbers, ArrayAddable, ArraysAdded, Tally, tallyMet, Fitted};
 use crate::bitset::bits_set;
-use stored::Sizes;
-use stored::body::count_at;
-use stored::layout::field;
+use base::wide;
+use form::Sizes;
+use form::read::read_array;
+use form::read::weight;
+use opening::weighted::add_weighted;
 
 // How many numbers of each array are taken.
-fn taken_numbers(plan: &[u8], arrays: usize, bits: &[u8]) -> [u32; 170]
-    requires { ⌜ Numbered arrays (now plan) (now bits) ⌝ }
-    ensures { λ r. ⌜ Counted arrays (now (plan .entry)) (now (bits .entry)) r ⌝ }
+fn taken_numbers(plan: &[u8], s: Sizes, bits: &[u8]) -> [u32; 170]
+    requires { ⌜ Numbered s (now plan) (now bits) ⌝ }
+    ensures { λ r. ⌜ r ≡ takenNumbers (decode (now (plan .entry)) .arrays) (now (bits .entry)) ⌝ }
 {
     let mut taken = [0u32; 170];
     let mut at = 0;
-    for k in 0..arrays {
-        let weight = field(plan, k + 1) as usize;
-        taken[k] = bits_set(bits, at, weight);
-        at = at + weight;
+    for k in 0..s.arrays {
+        let w = weight(plan, k) as usize;
+        taken[k] = bits_set(bits, at, w);
+        at = at + w;
     }
     taken
 }
 
-// A number in a wider type, with its bound.
-fn wide(x: u32) -> u64
-    ensures { λ r. ⌜ (r ≡ x) × (r < 4294967296) ⌝ }
+// Adds array k, counted from 0, times a factor to some sums.
+fn add_array(plan: &[u8], s: Sizes, k: usize, factor: u32, sums: &mut [u64; 144])
+    requires { ⌜ ArrayAddable s (now plan) k (now sums) ⌝ }
+    ensures { λ _. ⌜ Increased factor (arrayAt (decode (now (plan .entry)) .arrays) k .counts) (now (sums .entry)) (now (sums .exit)) ⌝ }
 {
-    x as u64
+    let cells = s.rows * s.columns;
+    let mut counts = [0u16; 144];
+    read_array(plan, k, &mut counts);
+    add_weighted(factor, &counts[..cells], sums);
 }
 
-// What the tally has to be at place i: the counts there times how many numbers of their arrays are taken, added up.
-fn tally_at(plan: &[u8], arrays: usize, taken: &[u32; 170], i: usize) -> u64
-    requires { ⌜ Reached arrays i (now plan) × (length (now taken) ≡ maxArrays) ⌝ }
-    ensures { λ r. ⌜ r ≡ tallyIn (now (plan .entry)) (now (taken .entry)) arrays i ⌝ }
+// What the tally has to be: for each cell the counts of all arrays, each times how many of its numbers are taken, added up.
+fn tally_of(plan: &[u8], s: Sizes, taken: &[u32; 170]) -> [u64; 144]
+    requires { ⌜ Sized s (now plan) ⌝ }
+    ensures { λ r. ⌜ ArraysAdded (now (plan .entry)) (now (taken .entry)) r ⌝ }
 {
-    let mut sum: u64 = 0;
-    for k in 0..arrays {
-        sum = sum + wide(taken[k]) * count_at(plan, k, i) as u64;
+    let mut sums = [0u64; 144];
+    for k in 0..s.arrays {
+        add_array(plan, s, k, taken[k], &mut sums);
     }
-    sum
+    sums
 }
 
-// Whether the tally at each place is the sum of the arrays of the taken numbers.
-fn tally_right(plan: &[u8], arrays: usize, cells: usize, taken: &[u32; 170], tally: &[u32]) -> bool
-    requires { ⌜ Stored arrays cells (now plan) × (length (now taken) ≡ maxArrays) × (cells ≤ length (now tally)) ⌝ }
-    ensures { λ r. ⌜ r ≡ tallyRight (now (plan .entry)) (now (taken .entry)) (now (tally .entry)) arrays cells ⌝ }
+// Whether the tally is the sums, cell by cell.
+fn tally_met(tally: &[u32], cells: usize, sums: &[u64; 144]) -> bool
+    requires { ⌜ Tally cells (now tally) ⌝ }
+    ensures { λ r. ⌜ r ≡ tallyMet cells (now (tally .entry)) (now (sums .entry)) ⌝ }
 {
     for i in 0..cells {
-        if wide(tally[i]) != tally_at(plan, arrays, taken, i) {
+        if wide(tally[i]) != sums[i] {
             return false;
         }
     }
@@ -73,6 +77,7 @@ pub fn fits(plan: &[u8], s: Sizes, taken: u32, bits: &[u8], tally: &[u32]) -> bo
     if bits_set(bits, 0, denominator) != taken {
         return false;
     }
-    let numbers = taken_numbers(plan, s.arrays, bits);
-    tally_right(plan, s.arrays, s.rows * s.columns, &numbers, tally)
+    let numbers = taken_numbers(plan, s, bits);
+    let sums = tally_of(plan, s, &numbers);
+    tally_met(tally, s.rows * s.columns, &sums)
 }

@@ -10,16 +10,10 @@ mod fit;
 mod room;
 pub mod start;
 
-use table::Answer;
+use refusals::Answer;
 
-// The part of a campaign record that is no buffer: the count of numbers taken.
-#[repr(C)]
-pub struct Record {
-    pub taken: u32,
-}
-
-// What a call answers, and the count as it leaves it.
-struct Step {
+// What a start or a draw answers, and the count of numbers taken as it leaves it.
+pub struct Step {
     pub answer: Answer,
     pub taken: u32,
 }

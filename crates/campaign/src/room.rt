@@ -1,13 +1,14 @@
 // Opening a plan for a campaign: refusals 5 to 7.
 ghost use mathlib.Core.Path.{_≡_};
-ghost use Rattle.campaign.specs.Parts.{openFor};
-use stored::Opened;
-use stored::open::open;
-use table::Refusal;
+ghost use Rattle.campaign.specs.Record.{recordOf, startRefusal};
+ghost use Rattle.campaign.specs.Parts.{sizesOr};
+use opening::Opened;
+use opening::open::open;
+use refusals::Refusal;
 
-// The sizes of the plan if a record of `bits` bytes and `tally` numbers is long enough for it, or the lowest refusal that applies.
-pub fn open_for(plan: &[u8], bits: usize, tally: usize) -> Opened
-    ensures { λ r. ⌜ r ≡ openFor (now (plan .entry)) bits tally ⌝ }
+// The sizes of the plan if a start with these buffers is accepted, or the lowest refusal that applies. The count has no part in it.
+pub fn open_for(plan: &[u8], bits: &[u8], tally: &[u32]) -> Opened
+    ensures { λ r. ⌜ r ≡ sizesOr (now (plan .entry)) (startRefusal (now (plan .entry)) (recordOf 0 (now (bits .entry)) (now (tally .entry)))) ⌝ }
 {
     let opened = open(plan);
     match opened {
@@ -15,10 +16,10 @@ pub fn open_for(plan: &[u8], bits: usize, tally: usize) -> Opened
         Opened::Plan(s) => {
             let denominator = s.denominator as usize;
             let cells = s.rows * s.columns;
-            if bits < (denominator + 7) / 8 {
+            if bits.len() < (denominator + 7) / 8 {
                 return Opened::Refused(Refusal::Buffer);
             }
-            if tally < cells {
+            if tally.len() < cells {
                 return Opened::Refused(Refusal::Buffer);
             }
             Opened::Plan(s)

@@ -2,15 +2,14 @@
 ghost use mathlib.Core.Path.{_≡_};
 ghost use Prim.Native.Nat.{_≤_};
 ghost use lib.ListN.{length, replicate};
-ghost use Rattle.table.specs.Answer.{after, written};
-ghost use Rattle.stored.specs.Form.{decode};
-ghost use Rattle.campaign.specs.Record.{startAnswer, started};
-ghost use Rattle.campaign.specs.Calls.{recordOf, Leaves};
-use crate::Record;
+ghost use Rattle.refusals.specs.Due.{Answers};
+ghost use Rattle.base.specs.Buffers.{written};
+ghost use Rattle.form.specs.Form.{decode};
+ghost use Rattle.campaign.specs.Record.{recordOf, startRefusal, started};
 use crate::Step;
 use crate::room::open_for;
-use stored::Opened;
-use table::Answer;
+use opening::Opened;
+use refusals::Answer;
 
 // Sets the first bytes to zero.
 fn clear_bytes(bytes: &mut [u8], count: usize)
@@ -32,13 +31,13 @@ fn clear_numbers(numbers: &mut [u32], count: usize)
     }
 }
 
-// A start, with the count by value: the answer, and the count as the start leaves it.
-fn start_step(plan: &[u8], taken: u32, bits: &mut [u8], tally: &mut [u32]) -> Step
-    ensures { λ r. ⌜ Leaves (startAnswer (now (plan .entry)) (recordOf taken (now (bits .entry)) (now (tally .entry))))
+// Clears the record, whose count is passed and returned by value, or returns the lowest refusal that applies.
+pub fn start(plan: &[u8], taken: u32, bits: &mut [u8], tally: &mut [u32]) -> Step
+    ensures { λ r. ⌜ Answers (startRefusal (now (plan .entry)) (recordOf taken (now (bits .entry)) (now (tally .entry))))
         (started (decode (now (plan .entry))) (recordOf taken (now (bits .entry)) (now (tally .entry))))
-        (recordOf taken (now (bits .entry)) (now (tally .entry))) r (now (bits .exit)) (now (tally .exit)) ⌝ }
+        (recordOf taken (now (bits .entry)) (now (tally .entry))) (r .answer) (recordOf (r .taken) (now (bits .exit)) (now (tally .exit))) ⌝ }
 {
-    let opened = open_for(plan, bits.len(), tally.len());
+    let opened = open_for(plan, bits, tally);
     match opened {
         Opened::Refused(x) => Step {
             answer: Answer::Refused(x),
@@ -55,16 +54,4 @@ fn start_step(plan: &[u8], taken: u32, bits: &mut [u8], tally: &mut [u32]) -> St
             }
         }
     }
-}
-
-// Clears the record, or returns the lowest refusal that applies.
-pub fn start(plan: &[u8], record: &mut Record, bits: &mut [u8], tally: &mut [u32]) -> Answer
-    ensures answer { λ r. ⌜ r ≡ startAnswer (now (plan .entry)) (recordOf (now («record» .entry) .taken) (now (bits .entry)) (now (tally .entry))) ⌝ }
-    ensures left { λ r. ⌜ recordOf (now («record» .exit) .taken) (now (bits .exit)) (now (tally .exit))
-        ≡ after r (started (decode (now (plan .entry))) (recordOf (now («record» .entry) .taken) (now (bits .entry)) (now (tally .entry))))
-        (recordOf (now («record» .entry) .taken) (now (bits .entry)) (now (tally .entry))) ⌝ }
-{
-    let step = start_step(plan, record.taken, bits, tally);
-    record.taken = step.taken;
-    step.answer
 }

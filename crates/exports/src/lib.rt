@@ -1,15 +1,21 @@
 // The C interface: each call thin over the proved one, its answer as a number. A slice is a pointer and then its length in elements.
 ghost use mathlib.Core.Path.{_≡_};
 ghost use lib.ListN.{length};
-ghost use Rattle.table.specs.Answer.{answerNumber, after, written};
+ghost use Rattle.refusals.specs.Answer.{answerNumber};
+ghost use Rattle.refusals.specs.Due.{answerOf, after};
+ghost use Rattle.base.specs.Buffers.{written};
 ghost use Rattle.rounding.specs.Rounding.{firstRounding};
-ghost use Rattle.rounding.specs.Call.{roundAnswer};
-ghost use Rattle.plan.specs.Call.{planBytes, planAnswer, plannedNumber, Apart, afterPlan};
-ghost use Rattle.stored.specs.Form.{decode};
-ghost use Rattle.campaign.specs.Record.{startAnswer, started, campaignAnswer, taking};
-ghost use Rattle.campaign.specs.Calls.{recordOf};
-ghost use Rattle.stored.specs.Open.{openAnswer, openedNumber, drawAnswer, drawnArray};
-use campaign::Record;
+ghost use Rattle.rounding.specs.Call.{roundRefusal};
+ghost use Rattle.plan.specs.Call.{planBytes, planRefusal, planAnswer, plannedNumber, Apart};
+ghost use Rattle.form.specs.Form.{decode};
+ghost use Rattle.opening.specs.Open.{openAnswer, openedNumber, drawRefusal, drawnArray};
+ghost use Rattle.campaign.specs.Record.{recordOf, startRefusal, started, campaignRefusal, taking};
+
+// The part of a campaign record that is no buffer: the count of numbers taken.
+#[repr(C)]
+pub struct Record {
+    pub taken: u32,
+}
 
 // Writes the first controlled rounding of a table: 0, or the refusal's number.
 #[no_mangle]
@@ -20,12 +26,12 @@ pub extern "C" fn lufodimi_round(
     cells: &[u32],
     counts: &mut [u16],
 ) -> u32
-    ensures number { λ n. ⌜ n ≡ answerNumber (roundAnswer rows columns denominator (now (cells .entry)) (length (now (counts .entry)))) ⌝ }
-    ensures buffer { λ _. ⌜ now (counts .exit) ≡ after (roundAnswer rows columns denominator (now (cells .entry)) (length (now (counts .entry))))
+    ensures number { λ n. ⌜ n ≡ answerNumber (answerOf (roundRefusal rows columns denominator (now (cells .entry)) (length (now (counts .entry))))) ⌝ }
+    ensures buffer { λ _. ⌜ now (counts .exit) ≡ after (roundRefusal rows columns denominator (now (cells .entry)) (length (now (counts .entry))))
         (written (firstRounding rows columns denominator (now (cells .entry))) (now (counts .entry))) (now (counts .entry)) ⌝ }
 {
     let answer = rounding::round(rows, columns, denominator, cells, counts);
-    table::answer_number(answer)
+    refusals::answer_number(answer)
 }
 
 // Writes the stored plan of a table: its length, which is 30 or more, or the refusal's number, which is below 30.
@@ -38,7 +44,7 @@ pub extern "C" fn lufodimi_plan(
     buffer: &mut [u8],
 ) -> u32
     ensures number { λ n. ⌜ n ≡ plannedNumber (planAnswer rows columns denominator (now (cells .entry)) (length (now (buffer .entry)))) ⌝ }
-    ensures buffer { λ _. ⌜ now (buffer .exit) ≡ afterPlan (planAnswer rows columns denominator (now (cells .entry)) (length (now (buffer .entry))))
+    ensures buffer { λ _. ⌜ now (buffer .exit) ≡ after (planRefusal rows columns denominator (now (cells .entry)) (length (now (buffer .entry))))
         (written (planBytes rows columns denominator (now (cells .entry))) (now (buffer .entry))) (now (buffer .entry)) ⌝ }
     ensures apart { λ _. ⌜ Apart (planAnswer rows columns denominator (now (cells .entry)) (length (now (buffer .entry)))) ⌝ }
 {
@@ -51,19 +57,19 @@ pub extern "C" fn lufodimi_plan(
 pub extern "C" fn lufodimi_open(plan: &[u8]) -> u32
     ensures { λ n. ⌜ n ≡ openedNumber (openAnswer (now (plan .entry))) ⌝ }
 {
-    let opened = stored::open::open(plan);
-    stored::open::opened_number(opened)
+    let opened = opening::open::open(plan);
+    opening::open::opened_number(opened)
 }
 
 // Writes the array that belongs to a draw number: 0, or the refusal's number.
 #[no_mangle]
 pub extern "C" fn lufodimi_draw(plan: &[u8], number: u32, counts: &mut [u16]) -> u32
-    ensures number { λ n. ⌜ n ≡ answerNumber (drawAnswer (now (plan .entry)) number (length (now (counts .entry)))) ⌝ }
-    ensures buffer { λ _. ⌜ now (counts .exit) ≡ after (drawAnswer (now (plan .entry)) number (length (now (counts .entry))))
+    ensures number { λ n. ⌜ n ≡ answerNumber (answerOf (drawRefusal (now (plan .entry)) number (length (now (counts .entry))))) ⌝ }
+    ensures buffer { λ _. ⌜ now (counts .exit) ≡ after (drawRefusal (now (plan .entry)) number (length (now (counts .entry))))
         (written (drawnArray (now (plan .entry)) number) (now (counts .entry))) (now (counts .entry)) ⌝ }
 {
-    let answer = stored::draw::draw(plan, number, counts);
-    table::answer_number(answer)
+    let answer = opening::draw::draw(plan, number, counts);
+    refusals::answer_number(answer)
 }
 
 // Starts a campaign: 0, or the refusal's number.
@@ -74,14 +80,16 @@ pub extern "C" fn lufodimi_start(
     bits: &mut [u8],
     tally: &mut [u32],
 ) -> u32
-    ensures number { λ n. ⌜ n ≡ answerNumber (startAnswer (now (plan .entry)) (recordOf (now («record» .entry) .taken) (now (bits .entry)) (now (tally .entry)))) ⌝ }
+    ensures number { λ n. ⌜ n ≡ answerNumber (answerOf
+        (startRefusal (now (plan .entry)) (recordOf (now («record» .entry) .taken) (now (bits .entry)) (now (tally .entry))))) ⌝ }
     ensures left { λ _. ⌜ recordOf (now («record» .exit) .taken) (now (bits .exit)) (now (tally .exit))
-        ≡ after (startAnswer (now (plan .entry)) (recordOf (now («record» .entry) .taken) (now (bits .entry)) (now (tally .entry))))
+        ≡ after (startRefusal (now (plan .entry)) (recordOf (now («record» .entry) .taken) (now (bits .entry)) (now (tally .entry))))
         (started (decode (now (plan .entry))) (recordOf (now («record» .entry) .taken) (now (bits .entry)) (now (tally .entry))))
         (recordOf (now («record» .entry) .taken) (now (bits .entry)) (now (tally .entry))) ⌝ }
 {
-    let answer = campaign::start::start(plan, record, bits, tally);
-    table::answer_number(answer)
+    let started = campaign::start::start(plan, record.taken, bits, tally);
+    record.taken = started.taken;
+    refusals::answer_number(started.answer)
 }
 
 // Takes a number in a campaign and writes its array: 0, or the refusal's number.
@@ -94,16 +102,17 @@ pub extern "C" fn lufodimi_campaign_draw(
     tally: &mut [u32],
     counts: &mut [u16],
 ) -> u32
-    ensures number { λ n. ⌜ n ≡ answerNumber (campaignAnswer (now (plan .entry)) number
-        (recordOf (now («record» .entry) .taken) (now (bits .entry)) (now (tally .entry))) (length (now (counts .entry)))) ⌝ }
+    ensures number { λ n. ⌜ n ≡ answerNumber (answerOf (campaignRefusal (now (plan .entry)) number
+        (recordOf (now («record» .entry) .taken) (now (bits .entry)) (now (tally .entry))) (length (now (counts .entry))))) ⌝ }
     ensures left { λ _. ⌜ recordOf (now («record» .exit) .taken) (now (bits .exit)) (now (tally .exit))
-        ≡ after (campaignAnswer (now (plan .entry)) number (recordOf (now («record» .entry) .taken) (now (bits .entry)) (now (tally .entry))) (length (now (counts .entry))))
+        ≡ after (campaignRefusal (now (plan .entry)) number (recordOf (now («record» .entry) .taken) (now (bits .entry)) (now (tally .entry))) (length (now (counts .entry))))
         (taking (decode (now (plan .entry))) number (recordOf (now («record» .entry) .taken) (now (bits .entry)) (now (tally .entry))))
         (recordOf (now («record» .entry) .taken) (now (bits .entry)) (now (tally .entry))) ⌝ }
     ensures array { λ _. ⌜ now (counts .exit)
-        ≡ after (campaignAnswer (now (plan .entry)) number (recordOf (now («record» .entry) .taken) (now (bits .entry)) (now (tally .entry))) (length (now (counts .entry))))
+        ≡ after (campaignRefusal (now (plan .entry)) number (recordOf (now («record» .entry) .taken) (now (bits .entry)) (now (tally .entry))) (length (now (counts .entry))))
         (written (drawnArray (now (plan .entry)) number) (now (counts .entry))) (now (counts .entry)) ⌝ }
 {
-    let answer = campaign::draw::campaign_draw(plan, number, record, bits, tally, counts);
-    table::answer_number(answer)
+    let drawn = campaign::draw::draw(plan, number, record.taken, bits, tally, counts);
+    record.taken = drawn.taken;
+    refusals::answer_number(drawn.answer)
 }

@@ -4,13 +4,13 @@ use mathlib.Core.List.{List}
 use Prim.Native.Nat.{ℕ, zero, suc, _+_, _*_, _≤_, _<_}
 use native.Mathlib.Nat.{mul-le-mul-left, mul-lt-mul-of-pos-left, mul-zero, mul-one}
 use native.Mathlib.Omega.{arith}
-use Rattle.table.specs.Lists.{sumTo}
-use Rattle.margins.specs.Set.{on, has}
+use Rattle.base.specs.Lists.{sumTo}
+use Rattle.sets.specs.Set.{on, has}
 use Rattle.margins.specs.Level.{Stuck}
-use Rattle.margins.specs.Grid.{gridOf, Places, rowSum, colSum, Feasible}
-use Rattle.table.proofs.Sums.{sum-ext, sum-le, sum-lt, sum-mul}
+use Rattle.margins.specs.Board.{boardOf, Places, rowSum, colSum, Feasible}
+use Rattle.base.proofs.Sums.{sum-ext, sum-le, sum-lt, sum-mul}
 use Rattle.margins.proofs.DoubleSums.{by-rows, by-cols, sum-both}
-use Rattle.margins.proofs.Members.{on-le}
+use Rattle.sets.proofs.Members.{on-le}
 
 -- 1 where n is 0, else 0
 abbrev isZero : ℕ → ℕ
@@ -30,9 +30,9 @@ point w (suc k) zero u zero zero x h le f hl hk a b = omega (arith, mul-zero w)
 point w (suc k) zero u zero (suc o) x h le f hl hk a b = omega (arith, f (omega arith))
 
 module _ {up down one : List ℕ} {ends start : ℕ} (hs : start < 13) (m : Places up down one) (k : Stuck up down ends start)
-    {rows cols : ℕ → ℕ} (s : Feasible (gridOf up down one) rows cols)
-    (lr : (p : ℕ) → p < 13 → rowSum (gridOf up down one) p ≤ rows p) (ls : rowSum (gridOf up down one) start < rows start)
-    (lc : (q : ℕ) → q < 13 → on ends q ≡ 0 → colSum (gridOf up down one) q ≡ cols q) where
+    {rows cols : ℕ → ℕ} (s : Feasible (boardOf up down one) rows cols)
+    (lr : (p : ℕ) → p < 13 → rowSum (boardOf up down one) p ≤ rows p) (ls : rowSum (boardOf up down one) start < rows start)
+    (lc : (q : ℕ) → q < 13 → on ends q ≡ 0 → colSum (boardOf up down one) q ≡ cols q) where
   abbrev w : ℕ
   w = s .w
 
@@ -63,33 +63,33 @@ module _ {up down one : List ℕ} {ends start : ℕ} (hs : start < 13) (m : Plac
   rows-x : sumTo 13 (λ p. sumTo 13 (λ q. a p * x p q)) ≡ sumTo 13 (λ p. a p * (w * rows p))
   rows-x = by-rows 13 13 a x ∙ sum-ext 13 (λ p. a p * sumTo 13 (λ q. x p q)) (λ p. a p * (w * rows p)) (λ p h. ap (λ (n : ℕ). a p * n) (s .flow .row p h))
 
-  rows-y : sumTo 13 (λ p. sumTo 13 (λ q. a p * y p q)) ≡ sumTo 13 (λ p. a p * (w * rowSum (gridOf up down one) p))
+  rows-y : sumTo 13 (λ p. sumTo 13 (λ q. a p * y p q)) ≡ sumTo 13 (λ p. a p * (w * rowSum (boardOf up down one) p))
   unfolding y bt rowSum
-  rows-y = by-rows 13 13 a y ∙ sum-ext 13 (λ p. a p * sumTo 13 (λ q. y p q)) (λ p. a p * (w * rowSum (gridOf up down one) p)) (λ p h. ap (λ (n : ℕ). a p * n) (sum-mul 13 w (λ q. bt p q)))
+  rows-y = by-rows 13 13 a y ∙ sum-ext 13 (λ p. a p * sumTo 13 (λ q. y p q)) (λ p. a p * (w * rowSum (boardOf up down one) p)) (λ p h. ap (λ (n : ℕ). a p * n) (sum-mul 13 w (λ q. bt p q)))
 
   cols-x : sumTo 13 (λ p. sumTo 13 (λ q. b q * x p q)) ≡ sumTo 13 (λ q. b q * (w * cols q))
   cols-x = by-cols 13 13 b x ∙ sum-ext 13 (λ q. b q * sumTo 13 (λ p. x p q)) (λ q. b q * (w * cols q)) (λ q h. ap (λ (n : ℕ). b q * n) (s .flow .col q h))
 
-  cols-y : sumTo 13 (λ p. sumTo 13 (λ q. b q * y p q)) ≡ sumTo 13 (λ q. b q * (w * colSum (gridOf up down one) q))
+  cols-y : sumTo 13 (λ p. sumTo 13 (λ q. b q * y p q)) ≡ sumTo 13 (λ q. b q * (w * colSum (boardOf up down one) q))
   unfolding y bt colSum
-  cols-y = by-cols 13 13 b y ∙ sum-ext 13 (λ q. b q * sumTo 13 (λ p. y p q)) (λ q. b q * (w * colSum (gridOf up down one) q)) (λ q h. ap (λ (n : ℕ). b q * n) (sum-mul 13 w (λ p. bt p q)))
+  cols-y = by-cols 13 13 b y ∙ sum-ext 13 (λ q. b q * sumTo 13 (λ p. y p q)) (λ q. b q * (w * colSum (boardOf up down one) q)) (λ q h. ap (λ (n : ℕ). b q * n) (sum-mul 13 w (λ p. bt p q)))
 
   -- a column that is reached lacks nothing
-  full : sumTo 13 (λ q. b q * (w * cols q)) ≡ sumTo 13 (λ q. b q * (w * colSum (gridOf up down one) q))
+  full : sumTo 13 (λ q. b q * (w * cols q)) ≡ sumTo 13 (λ q. b q * (w * colSum (boardOf up down one) q))
   unfolding b
-  full = sum-ext 13 (λ q. b q * (w * cols q)) (λ q. b q * (w * colSum (gridOf up down one) q)) (λ q h. go q h (on (k .cols-left) q) refl)
+  full = sum-ext 13 (λ q. b q * (w * cols q)) (λ q. b q * (w * colSum (boardOf up down one) q)) (λ q h. go q h (on (k .cols-left) q) refl)
     where
-      go : (q : ℕ) → q < 13 → (n : ℕ) → on (k .cols-left) q ≡ n → isZero (on (k .cols-left) q) * (w * cols q) ≡ isZero (on (k .cols-left) q) * (w * colSum (gridOf up down one) q)
-      go q h zero e = let same : cols q ≡ colSum (gridOf up down one) q = sym (lc q h (omega (arith, k .full q h))) in rw same
+      go : (q : ℕ) → q < 13 → (n : ℕ) → on (k .cols-left) q ≡ n → isZero (on (k .cols-left) q) * (w * cols q) ≡ isZero (on (k .cols-left) q) * (w * colSum (boardOf up down one) q)
+      go q h zero e = let same : cols q ≡ colSum (boardOf up down one) q = sym (lc q h (omega (arith, k .full q h))) in rw same
       go q h (suc n) e = rw e (omega arith)
 
   -- the start's row lacks something
-  less : sumTo 13 (λ p. a p * (w * rowSum (gridOf up down one) p)) < sumTo 13 (λ p. a p * (w * rows p))
+  less : sumTo 13 (λ p. a p * (w * rowSum (boardOf up down one) p)) < sumTo 13 (λ p. a p * (w * rows p))
   unfolding a
-  less = sum-lt 13 (λ p. a p * (w * rowSum (gridOf up down one) p)) (λ p. a p * (w * rows p)) start hs (go (on (k .rows-left) start) (k .begin))
+  less = sum-lt 13 (λ p. a p * (w * rowSum (boardOf up down one) p)) (λ p. a p * (w * rows p)) start hs (go (on (k .rows-left) start) (k .begin))
       (λ p h. mul-le-mul-left (a p) (mul-le-mul-left w (lr p h)))
     where
-      go : (n : ℕ) → n ≡ 0 → isZero n * (w * rowSum (gridOf up down one) start) < isZero n * (w * rows start)
+      go : (n : ℕ) → n ≡ 0 → isZero n * (w * rowSum (boardOf up down one) start) < isZero n * (w * rows start)
       go zero h = omega (arith, mul-lt-mul-of-pos-left {k = w} ls (s .pos))
       go (suc n) h = absurd (omega arith)
 

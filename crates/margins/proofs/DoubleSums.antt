@@ -1,8 +1,8 @@
 -- Laws on sums over the places of a matrix. Assumes nothing.
 use mathlib.Core.Path.{_≡_, _∙_}
 use Prim.Native.Nat.{ℕ, _+_, _*_}
-use Rattle.table.specs.Lists.{sumTo}
-use Rattle.table.proofs.Sums.{sum-ext, sum-add, sum-mul, sum-swap}
+use Rattle.base.specs.Lists.{sumTo}
+use Rattle.base.proofs.Sums.{sum-ext, sum-add, sum-mul, sum-swap}
 
 module _ (n k : ℕ) where
   -- each entry times its row's number

@@ -9,13 +9,13 @@ use borrow.Author.Tests.{le-leb, lt-leb}
 use lib.Dec.{leb}
 use lib.ListN.{length, getD, set, length-set}
 use lib.Seq.{getD-set-same, getD-set-other}
-use Rattle.table.specs.Lists.{sumTo}
-use Rattle.table.proofs.Sums.{sum-ext, sum-add, sum-mul, sum-swap, sum-term}
-use Rattle.margins.specs.Set.{num, ind, on, Without, Nonzero}
+use Rattle.base.specs.Lists.{sumTo}
+use Rattle.base.proofs.Sums.{sum-ext, sum-add, sum-mul, sum-swap, sum-term}
+use Rattle.sets.specs.Set.{num, ind, on, Without, Nonzero}
 use Rattle.margins.specs.Level.{Stuck}
 use Rattle.margins.specs.Move.{OneMore, Augmented}
-use Rattle.margins.specs.Grid.{Grid, gridOf, Places, rowSum, colSum, Feasible, Room, Filled, StillLacking}
-use Rattle.margins.proofs.Indicators.{ind-same, ind-other}
+use Rattle.margins.specs.Board.{Board, boardOf, Places, rowSum, colSum, Feasible, Room, RowsFilled, StillLacking}
+use Rattle.sets.proofs.Indicators.{ind-same, ind-other}
 use Rattle.margins.proofs.Fixes.{places-more, row-more, col-more}
 use Rattle.margins.proofs.Cuts.{cut}
 
@@ -26,12 +26,12 @@ pub lacking-some : {columns j left : ℕ} → (left ≡ 0 → ⊥) → on column
 lacking-some n o = record { here = omega arith; others = λ q z. refl }
 
 -- nothing filled
-pub filled-none : {g : Grid} {lack : List ℕ} {a : ℕ → ℕ} → length lack ≡ 13 → ((p : ℕ) → p < 13 → a p ≡ 0) → Filled g g lack lack a
+pub filled-none : {g : Board} {lack : List ℕ} {a : ℕ → ℕ} → length lack ≡ 13 → ((p : ℕ) → p < 13 → a p ≡ 0) → RowsFilled g g lack lack a
 filled-none h z = record { lack-len = h; free = λ p q. refl; kept = λ p q e. refl; rows = λ p hp. omega (arith, z p hp); cols = λ q hq. refl }
 
 -- one filling after another
-pub filled-then : {g₀ g g' : Grid} {lack₀ lack lack' : List ℕ} {a b c : ℕ → ℕ} → Filled g₀ g lack₀ lack a → Filled g g' lack lack' b
-    → ((p : ℕ) → p < 13 → c p ≡ a p + b p) → Filled g₀ g' lack₀ lack' c
+pub filled-then : {g₀ g g' : Board} {lack₀ lack lack' : List ℕ} {a b c : ℕ → ℕ} → RowsFilled g₀ g lack₀ lack a → RowsFilled g g' lack lack' b
+    → ((p : ℕ) → p < 13 → c p ≡ a p + b p) → RowsFilled g₀ g' lack₀ lack' c
 filled-then f f' e = record {
   lack-len = f' .lack-len;
   free = λ p q. f' .free p q ∙ f .free p q;
@@ -40,11 +40,11 @@ filled-then f f' e = record {
   cols = λ q hq. f' .cols q hq ∙ f .cols q hq;
 }
 
-pub filled-as : {g g' : Grid} {lack lack' : List ℕ} {a b : ℕ → ℕ} → Filled g g' lack lack' a → ((p : ℕ) → p < 13 → b p ≡ a p) → Filled g g' lack lack' b
+pub filled-as : {g g' : Board} {lack lack' : List ℕ} {a b : ℕ → ℕ} → RowsFilled g g' lack lack' a → ((p : ℕ) → p < 13 → b p ≡ a p) → RowsFilled g g' lack lack' b
 filled-as f e = filled-then f (filled-none (f .lack-len) (λ p hp. refl)) (λ p hp. omega (arith, e p hp))
 
 -- what can be had from g can be had from g', with the lack that is left
-feasible-filled : {g g' : Grid} {lack lack' : List ℕ} {a rows : ℕ → ℕ} → Filled g g' lack lack' a
+feasible-filled : {g g' : Board} {lack lack' : List ℕ} {a rows : ℕ → ℕ} → RowsFilled g g' lack lack' a
     → Feasible g rows (λ q. colSum g q + getD lack q 0) → Feasible g' rows (λ q. colSum g' q + getD lack' q 0)
 feasible-filled f s =
     let x = s .flow in record {
@@ -70,7 +70,7 @@ lacking-all z = record { is = λ q h. simp zero-add at (z .is q h) }
 -- one search, with the columns that lack something
 module _ {up down one lack : List ℕ} {columns : ℕ} (m : Places up down one) (len : length lack ≡ 13) (l : Lacking lack columns) where
   -- the search cannot be stuck where there is room
-  pub not-stuck : {i n : ℕ} → i < 13 → 0 < n → Room (gridOf up down one) lack i n → Stuck up down columns i → ⊥
+  pub not-stuck : {i n : ℕ} → i < 13 → 0 < n → Room (boardOf up down one) lack i n → Stuck up down columns i → ⊥
   not-stuck {i} {n} hi pos r k =
       cut hi m k (r .feasible)
       (λ p hp. omega (arith, r .enough p hp))
@@ -82,7 +82,7 @@ module _ {up down one lack : List ℕ} {columns : ℕ} (m : Places up down one) 
   has-lack {j} hj o = omega (arith, l .is j hj)
 
   pub filled-one : {up' down' : List ℕ} {i j : ℕ} → j < 13 → on columns j ≡ 1 → OneMore up down up' down' i j
-      → Filled (gridOf up down one) (gridOf up' down' one) lack (set lack j (getD lack j 0 - 1)) (λ p. ind p i)
+      → RowsFilled (boardOf up down one) (boardOf up' down' one) lack (set lack j (getD lack j 0 - 1)) (λ p. ind p i)
   filled-one {up'} {down'} {i} {j} hj o v = record {
     lack-len = length-set lack j (getD lack j 0 - 1) ∙ len;
     free = v .free;
@@ -91,7 +91,7 @@ module _ {up down one lack : List ℕ} {columns : ℕ} (m : Places up down one) 
     cols = λ q hq. go q (ℕ-discrete q j);
   }
     where
-      go : (q : ℕ) → Dec (q ≡ j) → colSum (gridOf up' down' one) q + getD (set lack j (getD lack j 0 - 1)) q 0 ≡ colSum (gridOf up down one) q + getD lack q 0
+      go : (q : ℕ) → Dec (q ≡ j) → colSum (boardOf up' down' one) q + getD (set lack j (getD lack j 0 - 1)) q 0 ≡ colSum (boardOf up down one) q + getD lack q 0
       go q (yes e) =
           rw (e, getD-set-same lack j (getD lack j 0 - 1) 0 (omega arith)) (omega (arith, col-more m v j, ind-same j, has-lack hj o))
       go q (no n) = rw (getD-set-other lack j q (getD lack j 0 - 1) 0 n) (omega (arith, col-more m v q, ind-other q j n))
@@ -104,7 +104,7 @@ module _ {up down one lack : List ℕ} {columns : ℕ} (m : Places up down one) 
       go q hq (no n) = rw (getD-set-other lack j q (getD lack j 0 - 1) 0 n) (s .others q n ∙ l .is q hq)
 
 -- with k of n filled, there is room for the others
-room-left : {g g' : Grid} {lack lack' : List ℕ} {i n k : ℕ} → k ≤ n → Room g lack i n → Filled g g' lack lack' (λ p. k * ind p i) → Room g' lack' i (n - k)
+room-left : {g g' : Board} {lack lack' : List ℕ} {i n k : ℕ} → k ≤ n → Room g lack i n → RowsFilled g g' lack lack' (λ p. k * ind p i) → Room g' lack' i (n - k)
 room-left {i = i} {n = n} {k = k} h r f = record {
   rows = r .rows;
   enough = λ p hp. let e : k + (n - k) ≡ n = omega arith in
@@ -115,7 +115,7 @@ room-left {i = i} {n = n} {k = k} h r f = record {
 -- k more in row i, and the columns that lack something then
 pub record InRow (up₀ down₀ up down one lack₀ lack : List ℕ) (i k columns : ℕ) : Type 0 where
   pub places : Places up down one
-  pub filled : Filled (gridOf up₀ down₀ one) (gridOf up down one) lack₀ lack (λ p. k * ind p i)
+  pub filled : RowsFilled (boardOf up₀ down₀ one) (boardOf up down one) lack₀ lack (λ p. k * ind p i)
   pub lacks : Lacking lack columns
 
 pub row-none : {up down one lack : List ℕ} {i columns : ℕ} → Places up down one → length lack ≡ 13 → Nonzero lack 0 columns → InRow up down up down one lack lack i 0 columns
@@ -123,7 +123,7 @@ row-none m len z = record { places = m; filled = filled-none len (λ p hp. omega
 
 module _ {up₀ down₀ up down one lack₀ lack : List ℕ} {i k columns : ℕ} (a : InRow up₀ down₀ up down one lack₀ lack i k columns) {up' down' : List ℕ} {j : ℕ} where
   -- a search finds a column where more is to come
-  pub found : {n : ℕ} → i < 13 → k < n → Room (gridOf up₀ down₀ one) lack₀ i n → Augmented up down up' down' columns i j → j < 13
+  pub found : {n : ℕ} → i < 13 → k < n → Room (boardOf up₀ down₀ one) lack₀ i n → Augmented up down up' down' columns i j → j < 13
   found {n} hi h r g = go (decLt j 13)
     where
       go : Dec (j < 13) → j < 13
@@ -140,7 +140,7 @@ module _ {up₀ down₀ up down one lack₀ lack : List ℕ} {i k columns : ℕ}
   }
 
 pub row-all : {up₀ down₀ up down one lack₀ lack : List ℕ} {i k n columns : ℕ} → InRow up₀ down₀ up down one lack₀ lack i k columns → k ≡ n
-    → Filled (gridOf up₀ down₀ one) (gridOf up down one) lack₀ lack (λ p. n * ind p i)
+    → RowsFilled (boardOf up₀ down₀ one) (boardOf up down one) lack₀ lack (λ p. n * ind p i)
 row-all {i = i} a h = filled-as (a .filled) (λ p hp. ap (λ (x : ℕ). x * ind p i) (sym h))
 
 -- what the last k rows are to have more, and the others nothing
@@ -180,8 +180,8 @@ rows-le more k p = go (decLt (p + k) 13)
     go (no n) = omega (arith, rows-filled more k p (omega arith))
 
 -- with the last k rows filled, there is room in the row before
-pub room-next : {g g' : Grid} {lack lack' : List ℕ} (more : List ℕ) {k : ℕ} → k < 13
-    → Feasible g (λ p. rowSum g p + getD more p 0) (λ q. colSum g q + getD lack q 0) → Filled g g' lack lack' (lastRows more k)
+pub room-next : {g g' : Board} {lack lack' : List ℕ} (more : List ℕ) {k : ℕ} → k < 13
+    → Feasible g (λ p. rowSum g p + getD more p 0) (λ q. colSum g q + getD lack q 0) → RowsFilled g g' lack lack' (lastRows more k)
     → Room g' lack' (12 - k) (getD more (12 - k) 0)
 room-next {g} more {k} hk s f = record {
   rows = λ p. rowSum g p + getD more p 0;
@@ -190,7 +190,7 @@ room-next {g} more {k} hk s f = record {
 }
 
 -- where the rows have their sums, the columns have theirs
-module _ {g : Grid} (g' : Grid) (lack' : List ℕ) {rows cols : ℕ → ℕ} (s : Feasible g rows cols)
+module _ {g : Board} (g' : Board) (lack' : List ℕ) {rows cols : ℕ → ℕ} (s : Feasible g rows cols)
     (hr : (p : ℕ) → p < 13 → rowSum g' p ≡ rows p) (hc : (q : ℕ) → q < 13 → colSum g' q + getD lack' q 0 ≡ cols q) where
   scaled : s .w * sumTo 13 rows ≡ s .w * sumTo 13 cols
   scaled =

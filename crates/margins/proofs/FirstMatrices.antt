@@ -5,14 +5,16 @@ use Prim.Native.Nat.{ℕ, zero, suc, _+_, _*_, _/_, _%_, _≤_, _<_}
 use native.Mathlib.Nat.{mul-le-mul-left, mul-zero}
 use native.Mathlib.Omega.{arith}
 use lib.ListN.{getD, set, length-set, replicate, getD-replicate}
-use Rattle.table.specs.Lists.{sumTo}
-use Rattle.table.proofs.Sums.{sum-ext, sum-zero}
-use Rattle.margins.specs.Matrix.{at, Caps, Matrix, Solvable, FirstMatrix}
-use Rattle.margins.specs.Set.{on, has}
-use Rattle.margins.specs.Grid.{Grid, gridOf, start, Places, rowSum, colSum, Flow, Feasible, Filled, First, FreeOf, CopyOf, BytesOf}
-use Rattle.table.proofs.Lists.{each-more}
-use Rattle.margins.proofs.Members.{on-zero}
+use Rattle.base.specs.Lists.{sumTo}
+use Rattle.base.proofs.Sums.{sum-ext, sum-zero}
+use Rattle.margins.specs.Matrix.{at, Caps, Matrix, Solvable, nthCell, FirstMatrix}
+use Rattle.order.specs.Order.{nthRow, nthColumn}
+use Rattle.sets.specs.Set.{on, has}
+use Rattle.margins.specs.Board.{Board, boardOf, start, Places, rowSum, colSum, Flow, Feasible, RowsFilled, First, FreeOf, CopyOf, BytesOf}
+use Rattle.base.proofs.Lists.{each-more}
+use Rattle.sets.proofs.Members.{on-zero}
 use Rattle.margins.proofs.Fills.{no-lack}
+use Rattle.margins.proofs.Cells.{row-inside, column-inside}
 
 -- the bytes with one more of a row
 pub bytes-next : {down one b : List ℕ} {row q v : ℕ} → row < 13 → q < 13 → BytesOf down one (row * 13 + q) b → v ≡ has down q row + has one row q
@@ -31,13 +33,13 @@ bytes-next {down} {one} {b} {row} {q} {v} hr hq a e = record {
 pub bytes-as : {down one b : List ℕ} {m n : ℕ} → BytesOf down one m b → n ≡ m → BytesOf down one n b
 bytes-as a e = rw e a
 
--- the grid's free places are those under the cap, and the others are 0
-record Under (cap : List ℕ) (g : Grid) : Type 0 where
+-- the board's free places are those under the cap, and the others are 0
+record Under (cap : List ℕ) (g : Board) : Type 0 where
   free : (p q : ℕ) → p < 13 → q < 13 → g .free p q ≡ at cap p q
   fixed : (p q : ℕ) → p < 13 → q < 13 → g .free p q ≡ 0 → g .bit p q ≡ 0
 
--- a matrix under the cap goes with such a grid
-flow-of : {cap rows cols : List ℕ} {g : Grid} {r c : ℕ → ℕ} {w : ℕ} {x : ℕ → ℕ → ℕ} → Caps cap → Under cap g
+-- a matrix under the cap goes with such a board
+flow-of : {cap rows cols : List ℕ} {g : Board} {r c : ℕ → ℕ} {w : ℕ} {x : ℕ → ℕ → ℕ} → Caps cap → Under cap g
     → ((p : ℕ) → p < 13 → r p ≡ getD rows p 0) → ((q : ℕ) → q < 13 → c q ≡ getD cols q 0) → Matrix w cap rows cols x → Flow w g r c x
 flow-of {cap} {w = w} b u er ec m = record {
   le = λ p q hp hq. let h = mul-le-mul-left w (b .bit p q hp hq) in omega (arith, m .le p q hp hq);
@@ -89,7 +91,7 @@ module _ {cap rows cols up lack : List ℕ} (b : Caps cap) (s : Solvable cap row
   feasible-start = record { w = s .w; pos = s .pos; x = s .x; flow = flow-of b under-start row-need col-need (s .matrix) }
 
   -- after it: the lines have their sums
-  module _ {g : Grid} {lack' : List ℕ} (f : Filled (start up zeros) g lack lack' (λ p. getD rows p 0)) where
+  module _ {g : Board} {lack' : List ℕ} (f : RowsFilled (start up zeros) g lack lack' (λ p. getD rows p 0)) where
     under-filled : Under cap g
     under-filled = record {
       free = λ p q hp hq. f .free p q ∙ under-start .free p q hp hq;
@@ -103,7 +105,7 @@ module _ {cap rows cols up lack : List ℕ} (b : Caps cap) (s : Solvable cap row
     col-filled q h = no-lack g lack' feasible-start (f .rows) (f .cols) q h ∙ col-need q h
 
     -- after the cells are fixed: the first matrix
-    module _ {up' down' one' m : List ℕ} (t : Places up' down' one') (a : First g (gridOf up' down' one') 144) (y : BytesOf down' one' 169 m) where
+    module _ {up' down' one' m : List ℕ} (t : Places up' down' one') (a : First g (boardOf up' down' one') 144) (y : BytesOf down' one' 169 m) where
       bit : (p q : ℕ) → p < 13 → q < 13 → at m p q ≡ has down' q p + has one' p q
       bit p q hp hq =
           let i : (p * 13 + q) / 13 ≡ p = omega arith in
@@ -116,11 +118,14 @@ module _ {cap rows cols up lack : List ℕ} (b : Caps cap) (s : Solvable cap row
           omega (arith, bit p q hp hq, a .kept p q hp hq z, under-filled .fixed p q hp hq z)
       below p q hp hq (suc n) e = omega (arith, bit p q hp hq, t .single p q hp hq)
 
-      row-sum : (p : ℕ) → p < 13 → sumTo 13 (λ q. at m p q) ≡ rowSum (gridOf up' down' one') p
+      cell : (n : ℕ) → n < 144 → nthCell (at m) n ≡ nthCell (λ p q. has down' q p + has one' p q) n
+      cell n h = bit (nthRow 12 12 n) (nthColumn 12 12 n) (row-inside n h) (column-inside n h)
+
+      row-sum : (p : ℕ) → p < 13 → sumTo 13 (λ q. at m p q) ≡ rowSum (boardOf up' down' one') p
       unfolding rowSum
       row-sum p h = sum-ext 13 (λ q. at m p q) (λ q. has down' q p + has one' p q) (λ q l. bit p q h l)
 
-      col-sum : (q : ℕ) → q < 13 → sumTo 13 (λ p. at m p q) ≡ colSum (gridOf up' down' one') q
+      col-sum : (q : ℕ) → q < 13 → sumTo 13 (λ p. at m p q) ≡ colSum (boardOf up' down' one') q
       unfolding colSum
       col-sum q h = sum-ext 13 (λ p. at m p q) (λ p. has down' q p + has one' p q) (λ p l. bit p q l h)
 
@@ -132,6 +137,5 @@ module _ {cap rows cols up lack : List ℕ} (b : Caps cap) (s : Solvable cap row
           row = λ p h. omega (arith, row-sum p h, a .rows p, row-filled p h);
           col = λ q h. omega (arith, col-sum q h, a .cols q, col-filled q h);
         };
-        first = λ x f n h e. rw (bit (n / 12) (n % 12) (omega arith) (omega arith))
-            (a .least x (flow-of b under-filled row-filled col-filled f) n h (λ j l. e j l ∙ bit (j / 12) (j % 12) (omega arith) (omega arith)));
+        first = λ x f n h e. rw (cell n h) (a .least x (flow-of b under-filled row-filled col-filled f) n h (λ j l. e j l ∙ cell j (omega arith)));
       }

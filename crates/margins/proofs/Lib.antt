@@ -1,10 +1,8 @@
-mod Indicators
 mod DoubleSums
-mod Members
-mod SetLoops
 mod Searches
 mod Paths
 mod Cuts
 mod Fixes
 mod Fills
 mod FirstMatrices
+mod Cells

@@ -6,12 +6,12 @@ use native.Mathlib.Decide.{ℕ-discrete}
 use native.Mathlib.Omega.{arith}
 use lib.ListN.{length, getD, set, length-set}
 use lib.Seq.{getD-set-same, getD-set-other}
-use Rattle.table.specs.Lists.{sumTo}
-use Rattle.margins.specs.Set.{ind, has, With, Without, Via, Picked}
+use Rattle.base.specs.Lists.{sumTo}
+use Rattle.sets.specs.Set.{ind, has, With, Without, Via, Picked}
 use Rattle.margins.specs.Level.{Levels, Trail}
-use Rattle.margins.specs.Move.{samePlace, Flipped, rowOnes, colOnes, Apart, OneMore}
-use Rattle.table.proofs.Sums.{sum-ext, sum-add, sum-zero}
-use Rattle.margins.proofs.Indicators.{ind-same, ind-other, ind-le, ind-eq, sum-ind}
+use Rattle.margins.specs.Move.{samePlace, Flipped, rowOnes, colOnes, NotBoth, OneMore}
+use Rattle.base.proofs.Sums.{sum-ext, sum-add, sum-zero}
+use Rattle.sets.proofs.Indicators.{ind-same, ind-other, ind-le, ind-eq, sum-ind}
 
 pub place-in-row : (p y q : ℕ) → samePlace p p y q ≡ ind y q
 unfolding samePlace
@@ -78,7 +78,7 @@ module _ (d d' : List ℕ) (p q : ℕ) (hp : p < 13) (hq : q < 13) (is : (x y : 
 
 -- on the way back at level i: the columns of the levels before are as they were, and what is free stays so
 pub record Way (up₀ down₀ rows cols : List ℕ) (start last : ℕ) (up down : List ℕ) (i : ℕ) : Type 0 where
-  pub apart : Apart up₀ down₀
+  pub apart : NotBoth up₀ down₀
   pub levels : Levels up₀ down₀ rows cols start last
   pub small : last < 13
   pub at-most : i ≤ last
@@ -106,7 +106,7 @@ pub record AtRow (up₀ down₀ rows cols : List ℕ) (start end last : ℕ) (up
   pub in-row : (x : ℕ) → rowOnes down x ≡ rowOnes down₀ x + ind x p
   pub in-col : (y : ℕ) → colOnes down y ≡ colOnes down₀ y + ind y end
 
-pub at-start : {up down rows cols : List ℕ} {start end last : ℕ} → Apart up down → Trail up down rows cols start end last → AtCol up down rows cols start end last up down end last
+pub at-start : {up down rows cols : List ℕ} {start end last : ℕ} → NotBoth up down → Trail up down rows cols start end last → AtCol up down rows cols start end last up down end last
 at-start a r = record {
   way = record {
     apart = a;

@@ -8,12 +8,12 @@ use native.Mathlib.Nat.{eq-or-lt-of-le}
 use native.Mathlib.Omega.{arith}
 use lib.ListN.{length, getD, set, length-set}
 use lib.Seq.{getD-set-same, getD-set-other}
-use Rattle.table.specs.Lists.{sumTo}
-use Rattle.margins.specs.Set.{on, has, Single, Some, Meet, Minus, Via, UnionOf}
-use Rattle.margins.specs.Level.{Levels, Reached}
-use Rattle.table.proofs.Sums.{sum-lt, sum-ones, sum-term}
-use Rattle.margins.proofs.Indicators.{ind-same, ind-other}
-use Rattle.margins.proofs.Members.{on-le, on-zero, on-all, nonempty}
+use Rattle.base.specs.Lists.{sumTo}
+use Rattle.sets.specs.Set.{on, has, Single, Some, Meet, Minus, Via, UnionOf}
+use Rattle.margins.specs.Level.{Levels, SearchFound}
+use Rattle.base.proofs.Sums.{sum-lt, sum-ones, sum-term}
+use Rattle.sets.proofs.Indicators.{ind-same, ind-other}
+use Rattle.sets.proofs.Members.{on-le, on-zero, on-all, nonempty}
 
 -- front is the last level's rows; rows-left and cols-left are the rows and the columns that are not reached
 pub record Progress (up down : List ℕ) (ends start : ℕ) (rows cols : List ℕ) (k front rows-left cols-left : ℕ) : Type 0 where
@@ -78,7 +78,7 @@ module _ (up down rows cols : List ℕ) (ends : ℕ) {start front rows-left : �
 
 -- nothing leads on
 stuck : {up down rows cols : List ℕ} {ends start k front rows-left cols-left : ℕ} (column level : ℕ) → column ≡ 13 → Progress up down ends start rows cols k front rows-left cols-left
-    → ((p q : ℕ) → p < 13 → q < 13 → has up p q + on cols-left q ≤ 1 + on rows-left p) → Reached up down ends start rows cols column level
+    → ((p q : ℕ) → p < 13 → q < 13 → has up p q + on cols-left q ≤ 1 + on rows-left p) → SearchFound up down ends start rows cols column level
 stuck {rows-left = rows-left} {cols-left = cols-left} column level e t u = record {
   bound = omega arith;
   found = λ l. absurd (omega arith);
@@ -86,7 +86,7 @@ stuck {rows-left = rows-left} {cols-left = cols-left} column level e t u = recor
 }
 
 module _ {up down rows cols : List ℕ} {ends start k front rows-left cols-left g next : ℕ} (t : Progress up down ends start rows cols k front rows-left cols-left) (a : UnionOf up front g) (b : Meet g cols-left next) where
-  pub progress-found : {h v : ℕ} → k < 13 → Meet ends next h → Some h v → Reached up down ends start rows cols v k
+  pub progress-found : {h v : ℕ} → k < 13 → Meet ends next h → Some h v → SearchFound up down ends start rows cols v k
   progress-found {h} {v} hk m o = record {
     bound = omega (arith, o .below);
     found = λ l. (
@@ -103,7 +103,7 @@ module _ {up down rows cols : List ℕ} {ends start k front rows-left cols-left 
   }
 
   -- no column is new
-  pub progress-shut : next ≡ 0 → (column level : ℕ) → (column ≡ 13) × (level ≡ 0) → Reached up down ends start rows cols column level
+  pub progress-shut : next ≡ 0 → (column level : ℕ) → (column ≡ 13) × (level ≡ 0) → SearchFound up down ends start rows cols column level
   progress-shut e column level n =
       stuck column level (n .0) t (λ p q hp hq. omega (arith, t .ups p q hp hq, a .all p q, b .is q, empty q, on-le front p, on-le cols-left q, on-le (getD up p 0) q))
     where
@@ -111,7 +111,7 @@ module _ {up down rows cols : List ℕ} {ends start k front rows-left cols-left 
       empty q = ap (λ (n : ℕ). on n q) e ∙ on-zero q
 
 -- every column is reached
-pub progress-full : {up down rows cols : List ℕ} {ends start k front rows-left cols-left : ℕ} → Progress up down ends start rows cols k front rows-left cols-left → 13 ≤ k → (column level : ℕ) → (column ≡ 13) × (level ≡ 0) → Reached up down ends start rows cols column level
+pub progress-full : {up down rows cols : List ℕ} {ends start k front rows-left cols-left : ℕ} → Progress up down ends start rows cols k front rows-left cols-left → 13 ≤ k → (column level : ℕ) → (column ≡ 13) × (level ≡ 0) → SearchFound up down ends start rows cols column level
 progress-full {up} {cols-left = cols-left} t h column level n = stuck column level (n .0) t (λ p q hp hq. omega (arith, none q hq, on-le (getD up p 0) q))
   where
     none : (q : ℕ) → q < 13 → on cols-left q ≡ 0

@@ -4,7 +4,7 @@ use mathlib.Core.Path.{_≡_}
 use Prim.Native.Nat.{ℕ, _+_, _<_, _≤_}
 use mathlib.Core.List.{List}
 use lib.ListN.{getD}
-use Rattle.margins.specs.Set.{ind, on, has, Via}
+use Rattle.sets.specs.Set.{ind, on, has, Via}
 
 -- the rows of the levels 0 to k and the columns of those before k: a column of a level is reached from a row of that level, and a row of the next from such a column
 pub record Levels (up down rows cols : List ℕ) (start k : ℕ) : Type 0 where
@@ -34,7 +34,7 @@ pub record Stuck (up down : List ℕ) (ends start : ℕ) : Type 0 where
   pub full : (q : ℕ) → q < 13 → on ends q ≤ on cols-left q
 
 -- what a search finds: a column of ends and the levels up to it, or 13
-pub record Reached (up down : List ℕ) (ends start : ℕ) (rows cols : List ℕ) (column level : ℕ) : Type 0 where
+pub record SearchFound (up down : List ℕ) (ends start : ℕ) (rows cols : List ℕ) (column level : ℕ) : Type 0 where
   pub bound : column ≤ 13
   pub found : column < 13 → (on ends column ≡ 1) × Trail up down rows cols start column level
   pub none : column ≡ 13 → Stuck up down ends start

@@ -1,5 +1,4 @@
 pub mod Matrix
-pub mod Set
 pub mod Level
 pub mod Move
-pub mod Grid
+pub mod Board

@@ -1,9 +1,10 @@
 -- Matrices of 13 by 13 with given line sums (a line is a row or a column), and the first of those of 0 and 1. Assumes nothing.
 use mathlib.Core.Path.{_≡_}
-use Prim.Native.Nat.{ℕ, _+_, _*_, _/_, _%_, _<_, _≤_}
+use Prim.Native.Nat.{ℕ, _+_, _*_, _<_, _≤_}
 use mathlib.Core.List.{List}
 use lib.ListN.{length, getD}
-use Rattle.table.specs.Lists.{sumTo}
+use Rattle.base.specs.Lists.{sumTo}
+use Rattle.order.specs.Order.{nthRow, nthColumn}
 
 -- the number at row p and column q of a 13 by 13 grid held in row order
 abbrev pub at : List ℕ → ℕ → ℕ → ℕ
@@ -27,9 +28,14 @@ pub record Solvable (cap rows cols : List ℕ) : Type 0 where
   pub x : ℕ → ℕ → ℕ
   pub matrix : Matrix w cap rows cols x
 
--- b is a matrix of 0 and 1 with the line sums, and the first of all of them, compared cell by cell, in row order, over the 12 by 12 cells
+-- the n-th of the 12 by 12 cells of a matrix, in the order in which cells are compared
+abbrev pub nthCell : (ℕ → ℕ → ℕ) → ℕ → ℕ
+nthCell x n = x (nthRow 12 12 n) (nthColumn 12 12 n)
+
+-- b is a matrix of 0 and 1 with the line sums, and the first of all of them, compared cell by cell over the 12 by 12 cells: where another has the same
+-- cells up to one, it has no smaller number there
 pub record FirstMatrix (cap rows cols b : List ℕ) : Type 0 where
   pub len : length b ≡ 169
   pub matrix : Matrix 1 cap rows cols (at b)
   pub first : (x : ℕ → ℕ → ℕ) → Matrix 1 cap rows cols x → (n : ℕ) → n < 144
-      → ((m : ℕ) → m < n → x (m / 12) (m % 12) ≡ at b (m / 12) (m % 12)) → at b (n / 12) (n % 12) ≤ x (n / 12) (n % 12)
+      → ((m : ℕ) → m < n → nthCell x m ≡ nthCell (at b) m) → nthCell (at b) n ≤ nthCell x n

@@ -3,8 +3,8 @@ use mathlib.Core.Path.{_≡_}
 use Prim.Native.Nat.{ℕ, _+_, _<_, _≤_, min}
 use mathlib.Core.List.{List}
 use lib.ListN.{length}
-use Rattle.table.specs.Lists.{sumTo}
-use Rattle.margins.specs.Set.{ind, on, has}
+use Rattle.base.specs.Lists.{sumTo}
+use Rattle.sets.specs.Set.{ind, on, has}
 use Rattle.margins.specs.Level.{Stuck}
 
 -- 1 where x is p and y is q, else 0
@@ -26,7 +26,7 @@ unfoldable pub colOnes : List ℕ → ℕ → ℕ
 colOnes down q = sumTo 13 (λ p. has down q p)
 
 -- a place is in one of the two at most
-pub record Apart (up down : List ℕ) : Type 0 where
+pub record NotBoth (up down : List ℕ) : Type 0 where
   pub up-len : length up ≡ 13
   pub down-len : length down ≡ 13
   pub one : (p q : ℕ) → p < 13 → q < 13 → has up p q + has down q p ≤ 1

@@ -1,16 +1,15 @@
 // Which matrix of 0 and 1 with given line sums comes first?
 ghost use Rattle.margins.specs.Matrix.{Caps, Solvable, FirstMatrix};
 use crate::fill::fill;
-use crate::order::fix_all;
+use crate::fixing::fix_all;
 use crate::places::bytes_of;
 use crate::places::copy_of;
 use crate::places::free_places;
 
 mod fill;
-mod order;
+mod fixing;
 mod places;
 mod search;
-mod sets;
 
 // The first matrix of 0 and 1, in row order of its cells, that is at most `cap` and has the given line sums.
 pub fn first(cap: &[u8; 169], rows: &[u8; 13], cols: &[u8; 13]) -> [u8; 169]

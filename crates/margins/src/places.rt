@@ -1,12 +1,12 @@
-// Between a grid of bytes, in row order, and sets of places (`up`, `down`: see search; `one`: see order).
+// Between a grid of bytes, in row order, and sets of places (`up`, `down`: see search; `one`: see fixing).
 ghost use mathlib.Core.Path.{_≡_};
 ghost use Prim.Native.Nat.{ℕ, _+_, _*_, _≤_, _<_};
 ghost use lib.ListN.{length};
-ghost use Rattle.margins.specs.Set.{on, has};
+ghost use Rattle.sets.specs.Set.{on, has};
 ghost use Rattle.margins.specs.Matrix.{Caps};
-ghost use Rattle.margins.specs.Grid.{FreeOf, BytesOf, CopyOf};
-use crate::sets::member;
-use crate::sets::nonzero;
+ghost use Rattle.margins.specs.Board.{FreeOf, BytesOf, CopyOf};
+use sets::member;
+use sets::nonzero;
 
 // For each row the columns where `cap` is 1.
 pub fn free_places(cap: &[u8; 169], up: &mut [u32; 13])

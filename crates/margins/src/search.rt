@@ -3,17 +3,17 @@
 ghost use mathlib.Core.Path.{_≡_};
 ghost use Prim.Native.Nat.{_+_, _<_};
 ghost use lib.ListN.{length};
-ghost use Rattle.margins.specs.Set.{has};
-ghost use Rattle.margins.specs.Level.{Reached, Trail};
-ghost use Rattle.margins.specs.Move.{Apart, Flipped, OneMore, Augmented};
-use crate::sets::meet;
-use crate::sets::minus;
-use crate::sets::pick;
-use crate::sets::single;
-use crate::sets::some;
-use crate::sets::union_of;
-use crate::sets::with;
-use crate::sets::without;
+ghost use Rattle.sets.specs.Set.{has};
+ghost use Rattle.margins.specs.Level.{SearchFound, Trail};
+ghost use Rattle.margins.specs.Move.{NotBoth, Flipped, OneMore, Augmented};
+use sets::meet;
+use sets::minus;
+use sets::pick;
+use sets::single;
+use sets::some;
+use sets::union_of;
+use sets::with;
+use sets::without;
 
 // What a search finds: a column and its level, or column 13.
 pub struct Found {
@@ -42,7 +42,7 @@ pub fn reach(
     cols: &mut [u32; 14],
 ) -> Found
     requires { ⌜ (start < 13) × ((length (now rows) ≡ 14) × (length (now cols) ≡ 14)) ⌝ }
-    ensures { λ r. ⌜ Reached (now (up .entry)) (now (down .entry)) ends start (now (rows .exit)) (now (cols .exit)) (r .column) (r .level) ⌝ }
+    ensures { λ r. ⌜ SearchFound (now (up .entry)) (now (down .entry)) ends start (now (rows .exit)) (now (cols .exit)) (r .column) (r .level) ⌝ }
 {
     let mut front = single(start);
     let mut rows_left = minus(8191, front);
@@ -89,7 +89,7 @@ pub fn flip_path(
     end: usize,
     last: usize,
 )
-    requires { ⌜ Apart (now up) (now down) ⌝ }
+    requires { ⌜ NotBoth (now up) (now down) ⌝ }
     requires { ⌜ Trail (now up) (now down) (now rows) (now cols) start end last ⌝ }
     ensures { λ _. ⌜ OneMore (now (up .entry)) (now (down .entry)) (now (up .exit)) (now (down .exit)) start end ⌝ }
 {
@@ -109,7 +109,7 @@ pub fn flip_path(
 
 // One more in row `start` and in a column of `ends`: that column, or 13 where there is none, and then all stays as it is.
 pub fn augment(up: &mut [u32; 13], down: &mut [u32; 13], ends: u32, start: usize) -> usize
-    requires { ⌜ Apart (now up) (now down) × (start < 13) ⌝ }
+    requires { ⌜ NotBoth (now up) (now down) × (start < 13) ⌝ }
     ensures { λ r. ⌜ Augmented (now (up .entry)) (now (down .entry)) (now (up .exit)) (now (down .exit)) ends start r ⌝ }
 {
     let mut rows = [0u32; 14];

@@ -4,7 +4,7 @@ use mathlib.Core.Logic.{_⊎_, inl, inr}
 use mathlib.Core.Bool.{true}
 use Prim.Native.Nat.{ℕ, _+_, _-_, _*_, _/_, _%_, _≤_, _<_}
 use native.Mathlib.Decide.{ℕ-discrete}
-use native.Mathlib.Nat.{div-add-mod', mod-lt, add-mul, mul-add, mul-comm, one-mul, mul-one, mul-le-mul-right, mul-mod-left, le-of-mul-le-mul-right, lt-of-mul-lt-mul-right}
+use native.Mathlib.Nat.{div-add-mod', mod-lt, add-mul, mul-add, mul-comm, one-mul, mul-one, mul-le-mul-right, mul-mod-left, le-of-mul-le-mul-right, lt-of-mul-lt-mul-right, le-div-iff-mul-le}
 use native.Mathlib.Numerals.{add-one-le}
 use native.Mathlib.Omega.{arith}
 use borrow.Author.Tests.{eq-eqb, ne-eqb}
@@ -118,10 +118,7 @@ module _ (w : ℕ) (wp : 0 < w) (e n : ℕ) (h : roundsTo w e n ≡ true) where
   -- Ernst's bounds: between lo and hi times the rest, before and after; and the count is between lo and hi
   module _ (lo hi : ℕ) (low : lo * w ≤ e) (high : e ≤ hi * w) where
     lo-le : lo ≤ e / w
-    lo-le = lt-add-one-le (lt-of-mul-lt-mul-right w {m = lo} {n = e / w + 1} (omega (arith, parts, next, mod-lt e wp)))
-      where
-        lt-add-one-le : {x y : ℕ} → x < y + 1 → x ≤ y
-        lt-add-one-le k = omega arith
+    lo-le = le-div-iff-mul-le wp .1 low
 
     hi-ge : e / w ≤ hi
     hi-ge = le-of-mul-le-mul-right {k = w} (omega (arith, parts)) wp

@@ -3,7 +3,7 @@ use mathlib.Core.Path.{refl}
 use mathlib.Core.List.{List·Memᴰ as Member, List·Memᴰ·head as here, List·Memᴰ·tail as there, Memᴰ·append-left, Memᴰ·append-right}
 use Prim.Native.Nat.{ℕ, zero, suc, _*_, _<_}
 use native.Mathlib.Omega.{arith}
-use Rattle.table.specs.Lists.{tabulate}
+use Rattle.base.specs.Lists.{tabulate}
 use Rattle.table.specs.Table.{cellPlaces, rowPlaces, columnPlaces, allPlaces, lines, entryPlaces}
 
 member-tabulate {ℓ} : {A : Type ℓ} (n : ℕ) (f : ℕ → A) (i : ℕ) → i < n → Member (f i) (tabulate n f)

@@ -9,25 +9,23 @@ use lib.ListN.{length, getD}
 use lib.Seq.{ext-getD}
 use lib.Dec.{leb}
 use borrow.Author.Tests.{le-leb, leb-true}
-use Rattle.table.proofs.Lists.{all-at-member}
-use Rattle.table.specs.Table.{total, entryPlaces, gridPlaces, gridAt, gridOf}
+use Rattle.base.specs.Lists.{tabulate}
+use Rattle.base.proofs.Lists.{all-at-member}
+use Rattle.base.proofs.Listing.{listed-at}
+use Rattle.table.specs.Table.{total, entryPlaces}
+use Rattle.grid.specs.Grid.{gridPlaces, gridAt, gridOf}
 use Rattle.table.specs.Whole.{roundsTo}
 use Rattle.table.specs.Shape.{Shape}
-use Rattle.table.proofs.Totals.{total-none, grid-at, length-grid}
-use Rattle.table.proofs.EntryTests.{grid-entries, grid-each}
+use Rattle.table.proofs.Totals.{total-none}
+use Rattle.grid.proofs.GridPlaces.{grid-at, grid-entry, length-grid}
+use Rattle.grid.proofs.GridTests.{grid-entries, grid-each}
 use Rattle.rounding.specs.Rounding.{IsFirst, firstRounding}
 use Rattle.rounding.specs.Lines.{IsGrid, RoundedGrid}
 use Rattle.rounding.proofs.Roundings.{rounding-grid}
 use Rattle.plan.specs.Rounds.{limitOf, weightOf, without}
-use Rattle.plan.specs.Grids.{Rounded, Limits, Smallest, Bears, Lost, RoundDone}
+use Rattle.plan.specs.Grids.{Rounded, limitAt, Smallest, Bears, Lost, RoundDone}
 use Rattle.plan.proofs.OneRound.{attains, weight-most, weight-high, rest, rest-total}
 use Rattle.plan.proofs.GridMembers.{cell-in, row-in, column-in, grand-in}
-
-module _ (r c : ℕ) (g : List ℕ) (k : ℕ) (h : k < 169) where
-  pub entry-of : getD (gridOf r c g) k 0 ≡ gridAt r c g (k / 13) (k % 13)
-  entry-of =
-      let place : k / 13 * 13 + k % 13 ≡ k = omega arith in
-      rw place at (grid-at r c g (k / 13) (k % 13) (omega arith) (omega arith))
 
 module _ {w : ℕ} (wp : 0 < w) {e n : List ℕ} (o : RoundedGrid w e n) (r c : ℕ) (g : List ℕ) (s : Shape r c g) (is : e ≡ gridOf r c g) where
   array : List ℕ
@@ -37,10 +35,10 @@ module _ {w : ℕ} (wp : 0 < w) {e n : List ℕ} (o : RoundedGrid w e n) (r c : 
   first = o .first r c g s is
 
   e-at : (k : ℕ) → k < 169 → getD e k 0 ≡ gridAt r c g (k / 13) (k % 13)
-  e-at k h = ap (λ (l : List ℕ). getD l k 0) is ∙ entry-of r c g k h
+  e-at k h = ap (λ (l : List ℕ). getD l k 0) is ∙ grid-entry r c g k h
 
   n-at : (k : ℕ) → k < 169 → getD n k 0 ≡ gridAt r c (firstRounding r c w g) (k / 13) (k % 13)
-  n-at k h = ap (λ (l : List ℕ). getD l k 0) (o .is r c g s is) ∙ entry-of r c (firstRounding r c w g) k h
+  n-at k h = ap (λ (l : List ℕ). getD l k 0) (o .is r c g s is) ∙ grid-entry r c (firstRounding r c w g) k h
 
   pub entry-ok : (k : ℕ) → k < 169 → roundsTo w (getD e k 0) (getD n k 0) ≡ true
   entry-ok k h = rw (e-at k h, n-at k h) (rounding-grid s w (firstRounding r c w g) (first .rounding) (k / 13) (k % 13) (omega arith) (omega arith))
@@ -61,7 +59,7 @@ module _ {w : ℕ} (wp : 0 < w) {e n : List ℕ} (o : RoundedGrid w e n) (r c : 
       (weight-most s w wp _ (first .rounding) (grand-in r c))
       (k / 13) (k % 13))
 
-  module _ {l : List ℕ} (lm : Limits w e n l) {x : ℕ} (sm : Smallest l x) where
+  module _ {l : List ℕ} (lm : l ≡ tabulate 169 (limitAt w e n)) {x : ℕ} (sm : Smallest l x) where
     test : (p q : ℕ) → p < 13 → q < 13 → leb x (limitOf w (total g (gridPlaces r c p q)) (total (firstRounding r c w g) (gridPlaces r c p q))) ≡ true
     unfolding gridAt
     test p q hp hq =
@@ -70,7 +68,7 @@ module _ {w : ℕ} (wp : 0 < w) {e n : List ℕ} (o : RoundedGrid w e n) (r c : 
         let b = grid-at r c (firstRounding r c w g) p q hp hq in
         let ea : getD e (p * 13 + q) 0 ≡ gridAt r c g p q = ap (λ (l : List ℕ). getD l (p * 13 + q) 0) is ∙ a in
         let na : getD n (p * 13 + q) 0 ≡ gridAt r c (firstRounding r c w g) p q = ap (λ (l : List ℕ). getD l (p * 13 + q) 0) (o .is r c g s is) ∙ b in
-        le-leb x _ (rw (lm .is (p * 13 + q) k ∙ ap₂ (limitOf w) ea na) at (sm .low (p * 13 + q) k))
+        le-leb x _ (rw (listed-at 169 (limitAt w e n) l lm (p * 13 + q) k ∙ ap₂ (limitOf w) ea na) at (sm .low (p * 13 + q) k))
 
     pub weight-is : x ≡ weightOf r c w g (firstRounding r c w g)
     weight-is =
@@ -78,7 +76,7 @@ module _ {w : ℕ} (wp : 0 < w) {e n : List ℕ} (o : RoundedGrid w e n) (r c : 
         let up : x ≤ weightOf r c w g (firstRounding r c w g) = rw (t .is)
         (leb-true x _ (all-at-member (λ y. leb x (limitOf w (total g y) (total (firstRounding r c w g) y))) (entryPlaces r c)
         (grid-entries s (λ y. leb x (limitOf w (total g y) (total (firstRounding r c w g) y))) test) (t .member))) in
-        omega (arith, low (sm .place) (sm .inside), sm .is, lm .is (sm .place) (sm .inside))
+        omega (arith, low (sm .place) (sm .inside), sm .is, listed-at 169 (limitAt w e n) l lm (sm .place) (sm .inside))
 
     taken : (k : ℕ) → k < 169 → gridAt r c (without x (firstRounding r c w g) g) (k / 13) (k % 13) + x * getD n k 0 ≡ getD e k 0
     unfolding gridAt rest
@@ -91,7 +89,7 @@ module _ {w : ℕ} (wp : 0 < w) {e n : List ℕ} (o : RoundedGrid w e n) (r c : 
     left-is {e'} z =
         ext-getD 0 e' _ (z .len ∙ sym (length-grid r c _))
         (λ k l. let h : k < 169 = omega (arith, z .len) in
-        let there = entry-of r c (without x (firstRounding r c w g) g) k h in
+        let there = grid-entry r c (without x (firstRounding r c w g) g) k h in
         omega (arith, z .is k h, taken k h))
 
 -- for the table that the grid belongs to
@@ -99,7 +97,7 @@ module _ {w : ℕ} (wp : 0 < w) (ws : w ≤ 65535) {e n : List ℕ} (i : IsGrid 
   pub rounded : Rounded w e n
   rounded = record { some = wp; small = ws; entry-small = i .small; rounds = entry-ok wp o (i .rows) (i .columns) (i .cells) (i .shape) (i .is) }
 
-  module _ {l : List ℕ} (lm : Limits w e n l) {x : ℕ} (sm : Smallest l x) where
+  module _ {l : List ℕ} (lm : l ≡ tabulate 169 (limitAt w e n)) {x : ℕ} (sm : Smallest l x) where
     pub bears : length e ≡ 169 → Bears x e n
     bears h = record { len = h; small = i .small; enough = entry-bears wp o (i .rows) (i .columns) (i .cells) (i .shape) (i .is) lm sm }
 

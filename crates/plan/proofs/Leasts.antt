@@ -6,7 +6,7 @@ use mathlib.Core.List.{List·Memᴰ·not-nil as member-none, List·Memᴰ·cases
 use Prim.Native.Nat.{ℕ, _≤_, min}
 use native.Mathlib.Decide.{decLe}
 use native.Mathlib.Omega.{arith}
-use Rattle.table.specs.Lists.{least}
+use Rattle.base.specs.Lists.{least}
 
 module _ {ℓ} {A : Type ℓ} where
   module _ (f : A → ℕ) where

@@ -7,7 +7,7 @@ pub mod OneRound
 pub mod Progressing
 pub mod LimitLoops
 pub mod GridRounds
-pub mod HeldRounds
+pub mod Gathering
 pub mod Planning
 pub mod PlanCalls
 pub mod ZeroPlans

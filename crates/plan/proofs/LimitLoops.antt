@@ -1,6 +1,5 @@
 -- What the functions on limits keep. Assumes nothing.
 use mathlib.Core.Path.{_≡_, refl, ap, _∙_}
-use mathlib.Core.Bool.{true}
 use mathlib.Core.List.{List}
 use Prim.Native.Nat.{ℕ, _+_, _-_, _*_, _/_, _≤_, _<_, min}
 use native.Mathlib.Decide.{decLt}
@@ -11,26 +10,24 @@ use lib.ListN.{length, getD, set, length-set}
 use lib.Seq.{getD-set-other}
 use mir.Val.{Fits}
 use mir.Syntax.{w64}
-use Rattle.table.specs.Table.{maxDenominator, maxEntry}
-use Rattle.table.specs.Whole.{roundsTo}
-use Rattle.table.proofs.Lists.{each-more}
-use Rattle.stored.proofs.Rounding.{rounded-high, rounded-low}
+use Rattle.base.proofs.Lists.{each-more}
+use Rattle.table.proofs.RoundTests.{rounded-high, rounded-low}
 use Rattle.plan.specs.Rounds.{limitOf}
-use Rattle.plan.specs.Grids.{Rounded, Limits, Smallest, Bears, Lost}
+use Rattle.plan.specs.Grids.{LimitReady, Rounded, Smallest, Bears, Lost}
 use Rattle.plan.proofs.Entries.{Side, side, below, above}
 
 -- the limit without division
-module _ (w e n : ℕ) (p : ((0 < w) × (w ≤ maxDenominator)) × ((e ≤ maxEntry) × (roundsTo w e n ≡ true))) where
+module _ (w e n : ℕ) (p : LimitReady w e n) where
   wp : 0 < w
-  wp = p .0 .0
+  wp = p .some
 
   high : n * w < e + w
-  high = rounded-high w e n wp (p .1 .1)
+  high = rounded-high w e n wp (p .rounds)
 
   limits-are : (n * w ≤ e → n * w + w - e ≡ limitOf w e n) × (e < n * w → e + w - n * w ≡ limitOf w e n)
-  limits-are = go (side w wp e n (p .1 .1))
+  limits-are = go (side w wp e n (p .rounds))
     where
-      go : Side w wp e n (p .1 .1) → (n * w ≤ e → n * w + w - e ≡ limitOf w e n) × (e < n * w → e + w - n * w ≡ limitOf w e n)
+      go : Side w wp e n (p .rounds) → (n * w ≤ e → n * w + w - e ≡ limitOf w e n) × (e < n * w → e + w - n * w ≡ limitOf w e n)
       go (below q l) =
           let m : n * w ≡ e / w * w = ap (λ (x : ℕ). x * w) q in
           (λ h. omega (arith, div-add-mod' e w), λ h. absurd (omega (arith, div-add-mod' e w)))
@@ -39,13 +36,13 @@ module _ (w e n : ℕ) (p : ((0 < w) × (w ≤ maxDenominator)) × ((e ≤ maxEn
           (λ h. absurd (omega (arith, div-add-mod' e w, mod-lt e wp)), λ h. omega (arith, div-add-mod' e w))
 
   pub product-fits : Fits w64 (n * w)
-  product-fits = record { fits = omega (arith, high, p .0 .1, p .1 .0) }
+  product-fits = record { fits = omega (arith, high, p .small, p .entry-small) }
 
   pub next-fits : Fits w64 (n * w + w)
-  next-fits = record { fits = omega (arith, high, p .0 .1, p .1 .0) }
+  next-fits = record { fits = omega (arith, high, p .small, p .entry-small) }
 
   pub above-whole : e ≤ n * w + w
-  above-whole = omega (arith, rounded-low w e n wp (p .1 .1))
+  above-whole = omega (arith, rounded-low w e n wp (p .rounds))
 
   pub below-whole : n * w ≤ e + w
   below-whole = omega (arith, high)
@@ -56,27 +53,9 @@ module _ (w e n : ℕ) (p : ((0 < w) × (w ≤ maxDenominator)) × ((e ≤ maxEn
   pub limit-above : e < n * w → e + w - n * w ≡ limitOf w e n
   limit-above = limits-are .1
 
--- the first k limits
-pub record LimitsTo (w : ℕ) (e n l : List ℕ) (k : ℕ) : Type 0 where
-  pub len : length l ≡ 169
-  pub is : (i : ℕ) → i < k → getD l i 0 ≡ limitOf w (getD e i 0) (getD n i 0)
-
-pub limits-none : (w : ℕ) (e n l : List ℕ) → length l ≡ 169 → LimitsTo w e n l 0
-limits-none w e n l h = record { len = h; is = λ i p. absurd (omega arith) }
-
-module _ {w : ℕ} {e n l : List ℕ} {k : ℕ} (t : LimitsTo w e n l k) where
-  pub limits-more : (x : ℕ) → k < 169 → x ≡ limitOf w (getD e k 0) (getD n k 0) → LimitsTo w e n (set l k x) (k + 1)
-  limits-more x h is = record {
-    len = length-set l k x ∙ t .len;
-    is = each-more (λ i v. v ≡ limitOf w (getD e i 0) (getD n i 0)) l k x (omega (arith, t .len)) (t .is) is;
-  }
-
-  pub limits-all : 169 ≤ k → Limits w e n l
-  limits-all h = record { len = t .len; is = λ i p. t .is i (omega arith) }
-
 pub limit-ready : {w : ℕ} {e n : List ℕ} {k : ℕ} → Rounded w e n → k < 169
-    → ((0 < w) × (w ≤ maxDenominator)) × ((getD e k 0 ≤ maxEntry) × (roundsTo w (getD e k 0) (getD n k 0) ≡ true))
-limit-ready {w} {e} {n} {k} t h = ((t .some, t .small), (t .entry-small k, t .rounds k h))
+    → LimitReady w (getD e k 0) (getD n k 0)
+limit-ready {w} {e} {n} {k} t h = record { some = t .some; small = t .small; entry-small = t .entry-small k; rounds = t .rounds k h }
 
 -- the smallest of the first k
 pub record SmallestTo (l : List ℕ) (x k : ℕ) : Type 0 where

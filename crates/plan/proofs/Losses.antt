@@ -5,7 +5,7 @@ use Prim.Native.Nat.{ℕ, zero, suc, _+_, _-_, _*_, _≤_}
 use native.Mathlib.Nat.{mul-add, mul-zero}
 use native.Mathlib.Omega.{arith}
 use lib.ListN.{length, getD}
-use Rattle.table.specs.Lists.{sum}
+use Rattle.base.specs.Lists.{sum}
 use Rattle.table.specs.Table.{total}
 use Rattle.plan.specs.Rounds.{without}
 

@@ -8,15 +8,16 @@ use native.Mathlib.Nat.{mul-zero}
 use native.Mathlib.Omega.{arith}
 use lib.ListN.{length, getD, List·getD-eq-default}
 use lib.Dec.{eqb}
-use Rattle.table.proofs.Sums.{list-lt}
-use Rattle.table.specs.Lists.{sumTo}
+use Rattle.base.proofs.Sums.{list-lt}
+use Rattle.base.specs.Lists.{sumTo}
 use Rattle.table.specs.Table.{total, cellPlaces, entryPlaces}
 use Rattle.table.specs.Whole.{gap, roundsTo}
 use Rattle.table.specs.Shape.{Shape}
-use Rattle.table.proofs.Lists.{and-right, all-at-member}
+use Rattle.base.proofs.Lists.{and-right, all-at-member}
 use Rattle.table.proofs.Totals.{total-sum}
 use Rattle.rounding.specs.Rounding.{isRounding}
-use Rattle.rounding.proofs.Roundings.{shape-of, rounding-length}
+use Rattle.table.proofs.Sizes.{shape-of}
+use Rattle.rounding.proofs.Roundings.{rounding-length}
 use Rattle.plan.specs.Rounds.{limitOf, weightOf, without, notWhole}
 use Rattle.plan.proofs.Entries.{limit-low, limit-high, Left, left, gap-falls, gap-drops, count-low, count-high, next-low, next-high}
 use Rattle.plan.proofs.Leasts.{least-le, Attained, attained-in}

@@ -1,90 +1,104 @@
 -- The ways through the call "plan". Assumes nothing.
 use mathlib.Core.Path.{_≡_, refl, sym, ap, _∙_}
-use mathlib.Core.Bool.{Bool, true, false, cond}
-use mathlib.Core.List.{List}
+use mathlib.Core.List.{List, _++_}
+use mathlib.Core.Option.{Option, some, none}
 use Prim.Native.Nat.{ℕ, _≤_, _<_}
 use native.Mathlib.Nat.{mul-le-mul}
 use native.Mathlib.Omega.{arith}
 use lib.ListN.{length}
-use lib.Dec.{leb}
-use borrow.Author.Tests.{le-leb, lt-leb}
+use Rattle.base.specs.Buffers.{written}
+use Rattle.refusals.specs.Numbers.{numberOf}
+use Rattle.refusals.specs.declared.Refusal.{Refusal}
+use Rattle.refusals.specs.declared.Refusal.the-variants.{Size, Denominator, CellCount, LargeCell, Layout, Content, Buffer, Number, Record, Taken}
+use Rattle.refusals.specs.Due.{Test, due, refusedOr, after}
+use Rattle.refusals.proofs.Dues.{due-first}
 use Rattle.table.specs.Shape.{IsTable}
-use Rattle.table.specs.Answer.{written}
-use Rattle.table.specs.Check.{numberOf, checkOf}
+use Rattle.table.specs.Check.{tableTests, tableRefusal, checkOf}
 use Rattle.table.specs.declared.Table.{Table}
-use Rattle.table.specs.declared.Refusal.{Refusal}
-use Rattle.table.specs.declared.Refusal.the-variants.{Size, Denominator, CellCount, LargeCell, Layout, Content, Buffer, Number, Record, Taken}
 use Rattle.table.specs.declared.Checked.{Checked}
 use Rattle.table.specs.declared.Checked.the-variants as checked
-use Rattle.table.proofs.Checks.{accepted}
-use Rattle.stored.specs.Plan.{Plan}
-use Rattle.stored.specs.Form.{planLength, encode}
-use Rattle.stored.specs.Write.{heldPlan, Writable}
+use Rattle.table.proofs.Sizes.{few-cells}
+use Rattle.table.proofs.Tables.{table-accepted, taken, not-taken, refused-table, refused-buffer, refused-nothing}
+use Rattle.form.specs.Plan.{Plan}
+use Rattle.form.specs.Form.{planLength, encode}
+use Rattle.form.specs.Parts.{Bounded}
+use Rattle.writing.specs.Write.{bufferedPlan, Writable}
 use Rattle.plan.specs.declared.Planned.{Planned}
 use Rattle.plan.specs.declared.Planned.the-variants.{Length, Refused}
-use Rattle.plan.specs.Call.{planBytes, ifAccepted, plannedOf, planAnswer, plannedNumber, Apart, afterPlan}
-use Rattle.plan.specs.Grids.{AllHeld}
-use Rattle.plan.specs.Promises.{Promises}
-use Rattle.plan.proofs.Planning.{sizes, plan-held, bytes-length}
+use Rattle.plan.specs.Call.{planBytes, planRefusal, planAnswer, plannedNumber, Apart}
+use Rattle.plan.specs.Grids.{AllGathered}
+use Rattle.plan.specs.Promises.{Promises, PlanAnswers}
+use Rattle.plan.proofs.Planning.{sizes, plan-held, bytes-length, promises}
+
+-- the answer and the buffer, by what is due
+module _ {r c d : ℕ} {g old : List ℕ} (f : tableRefusal r c d g ≡ none → Promises r c d g) where
+  refused-so : {x : Refusal} → planRefusal r c d g (length old) ≡ some x → PlanAnswers r c d g old (Refused x) old
+  unfolding planAnswer after
+  refused-so h = record { answer = rw h refl; buffer = rw h refl; promises = f }
+
+  accepted-so : {n : ℕ} {new : List ℕ} → planRefusal r c d g (length old) ≡ none → n ≡ length (planBytes r c d g) → new ≡ written (planBytes r c d g) old
+      → PlanAnswers r c d g old (Length n) new
+  unfolding planAnswer after
+  accepted-so h e w = record { answer = rw h (ap Length e); buffer = rw h w; promises = f }
 
 -- an accepted table whose rounds are done
-module _ {r c d : ℕ} {g : List ℕ} (t : IsTable r c d g) {k : ℕ} {weights counts : List ℕ} (a : AllHeld r c d g k weights counts) where
-  pub length-ready : (r ≤ 12) × (c ≤ 12) × (k ≤ 170)
-  length-ready = (t .shape .rows, t .shape .columns, sizes t a .0 .arrays)
+module _ {r c d : ℕ} {g : List ℕ} {k : ℕ} {weights counts : List ℕ} (a : AllGathered r c d g k weights counts) where
+  t : IsTable r c d g
+  t = a .rounds .table
 
-  module _ (n room : ℕ) (e : n ≡ planLength r c k) where
-    pub too-short : room < n → Refused Buffer ≡ plannedOf r c d g room
-    unfolding plannedOf
-    too-short h = let l : room < length (planBytes r c d g) = omega (arith, bytes-length t a) in simp (lt-leb _ _ l)
+  pub denominator-fits : d ≤ 4294967295
+  denominator-fits = omega (arith, t .denominator)
 
-    pub long-enough : n ≤ room → Length n ≡ plannedOf r c d g room
-    unfolding plannedOf
-    long-enough h =
-        let l : length (planBytes r c d g) ≤ room = omega (arith, bytes-length t a) in
-        let m : n ≡ length (planBytes r c d g) = e ∙ sym (bytes-length t a) in
-        simp (le-leb _ _ l, m)
+  pub length-ready : Bounded r c k
+  length-ready = sizes a .0
 
-  pub writable : (plan : List ℕ) → planLength r c k ≤ length plan → Writable r c g k weights counts plan
-  writable plan h = record {
+  module _ {n : ℕ} (e : n ≡ planLength r c k) where
+    n-is : n ≡ length (planBytes r c d g)
+    n-is = e ∙ sym (bytes-length a)
+
+    pub too-short : {old : List ℕ} → length old < n → PlanAnswers r c d g old (Refused Buffer) old
+    unfolding planRefusal
+    too-short {old} h = refused-so (λ _. promises a) (refused-buffer r c d g (length old) _ (table-accepted t) (omega (arith, n-is)))
+
+    pub long-enough : {d' : ℕ} {old new : List ℕ} → n ≤ length old → d' ≡ d → new ≡ written (encode (bufferedPlan (record { rows = r; columns = c; arrays = k; denominator = d' }) g weights counts)) old
+        → PlanAnswers r c d g old (Length n) new
+    unfolding planRefusal planBytes
+    long-enough {old = old} h same w = accepted-so (λ _. promises a) (refused-nothing r c d g (length old) _ (table-accepted t) (omega (arith, n-is))) n-is
+        (rw same at w ∙ ap (λ (p : Plan). written (encode p) old) (plan-held a))
+
+  pub writable : {n d' : ℕ} {plan : List ℕ} → n ≡ planLength r c k → n ≤ length plan
+      → Writable (record { rows = r; columns = c; arrays = k; denominator = d' }) g weights counts plan
+  writable e h = record {
     shape = t .shape;
-    some-arrays = sizes t a .1;
-    arrays = sizes t a .0 .arrays;
-    weighed = omega (arith, a .held .weights-len, sizes t a .0 .arrays);
-    counted = omega (arith, a .held .counts-len, mul-le-mul (sizes t a .0 .arrays) (mul-le-mul (t .shape .rows) (t .shape .columns)));
-    room = h;
+    some-arrays = sizes a .1;
+    arrays = sizes a .0 .arrays;
+    weighed = omega (arith, a .rounds .weights-len, sizes a .0 .arrays);
+    counted = omega (arith, a .rounds .counts-len, mul-le-mul (sizes a .0 .arrays) (few-cells (t .shape)));
+    room = omega arith;
   }
 
-  pub plan-stored : (old new : List ℕ) → new ≡ written (encode (heldPlan r c d g k weights counts)) old → new ≡ written (planBytes r c d g) old
-  unfolding planBytes
-  plan-stored old new e = e ∙ ap (λ (p : Plan). written (encode p) old) (plan-held t a)
-
 -- the call above it
-module _ (r c d : ℕ) (g : List ℕ) (k : Checked) (e : k ≡ checkOf r c d g) where
-  pub refused : (x : Refusal) (room : ℕ) → k ≡ checked.Refused x → Refused x ≡ planAnswer r c d g room
-  unfolding planAnswer
-  refused x room h = rw (← e, h) refl
+module _ (r c d : ℕ) (g : List ℕ) {k : Checked} (e : k ≡ checkOf r c d g) where
+  pub refused : {x : Refusal} {old : List ℕ} → k ≡ checked.Refused x → PlanAnswers r c d g old (Refused x) old
+  unfolding planRefusal
+  refused {x} {old} h =
+      let due : tableRefusal r c d g ≡ some x = not-taken r c d g e x h in
+      refused-so (λ n. absurd (let z : _≡_ {A = ℕ} 0 1 = cc in omega arith)) (refused-table r c d g (length old) _ x due)
 
-  pub none-accepted : (x : Refusal) → k ≡ checked.Refused x → {A : Type 0} (t : Table) → checked.Accepted t ≡ checkOf r c d g → A
-  none-accepted x h t q = let o : _≡_ {A = ℕ} 0 1 = cc in absurd (omega arith)
+  module _ {t : Table} (h : k ≡ checked.Accepted t) where
+    pub is-table : IsTable (t .rows) (t .columns) (t .denominator) g
+    is-table = let u = taken r c d g e t h in rw (u .sizes) (u .table)
 
-  module _ (t : Table) (h : k ≡ checked.Accepted t) where
-    told : IsTable r c d g × (t ≡ record { rows = r; columns = c; denominator = d })
-    told = accepted r c d g t (sym h ∙ e)
+    pub answered : {old new : List ℕ} {p : Planned} → PlanAnswers (t .rows) (t .columns) (t .denominator) g old p new → PlanAnswers r c d g old p new
+    answered f = rw (taken r c d g e t h .sizes) at f
 
-    pub is-table : IsTable (t .rows) (t .columns) d g
-    is-table = rw (told .1) (told .0)
-
-    pub answered : (room : ℕ) (old new : List ℕ) (p : Planned)
-        → (p ≡ plannedOf (t .rows) (t .columns) d g room)
-        × ((new ≡ afterPlan p (written (planBytes (t .rows) (t .columns) d g) old) old)
-        × Promises (t .rows) (t .columns) d g)
-        → (p ≡ planAnswer r c d g room)
-        × ((new ≡ afterPlan p (written (planBytes r c d g) old) old)
-        × ((u : Table) → checked.Accepted u ≡ checkOf r c d g → Promises r c d g))
-    unfolding planAnswer
-    answered room old new p f =
-        let f' = rw (told .1) at f in
-        (f' .0 ∙ rw (← e, h) refl, (f' .1 .0, λ u q. f' .1 .1))
+-- nothing is due of one list and another: nothing is due of the first
+first-none : (l m : List Test) → due (l ++ m) ≡ none → due l ≡ none
+first-none l m h = go (due l) refl
+  where
+    go : (o : Option Refusal) → due l ≡ o → due l ≡ none
+    go none q = q
+    go (some x) q = absurd (let y = due-first l m x q in let z : _≡_ {A = ℕ} 0 1 = cc in omega arith)
 
 -- a refusal's number is below any length, and every answer's number is at most 50,912
 refusal-small : (x : Refusal) → numberOf x < 30
@@ -99,29 +113,18 @@ refusal-small Number = omega arith
 refusal-small Record = omega arith
 refusal-small Taken = omega arith
 
-module _ (r c d : ℕ) (g : List ℕ) (room : ℕ) (p : Planned) (e : p ≡ planAnswer r c d g room)
-    (f : (t : Table) → checked.Accepted t ≡ checkOf r c d g → Promises r c d g) where
-  pub number-apart : Apart p
-  unfolding planAnswer plannedOf
-  number-apart = rw e (go (checkOf r c d g) refl)
+module _ {r c d : ℕ} {g old new : List ℕ} {p : Planned} (f : PlanAnswers r c d g old p new) where
+  -- what holds of the answer, if it holds of every refusal and of the length of an accepted table's plan
+  by-cases : (P : Planned → Type 0) → ((x : Refusal) → P (Refused x)) → (Promises r c d g → P (Length (length (planBytes r c d g)))) → P p
+  unfolding planAnswer planRefusal tableRefusal
+  by-cases P refusals length-of = rw (f .answer) (go (planRefusal r c d g (length old)) refl)
     where
-      either : (b : Bool) → 30 ≤ length (planBytes r c d g) → Apart (cond b (Length (length (planBytes r c d g))) (Refused Buffer))
-      either true h = h
-      either false h = omega arith
+      go : (o : Option Refusal) → planRefusal r c d g (length old) ≡ o → P (refusedOr Refused (Length (length (planBytes r c d g))) o)
+      go (some x) q = refusals x
+      go none q = length-of (f .promises (first-none (tableTests r c d g) _ q))
 
-      go : (k : Checked) → checkOf r c d g ≡ k → Apart (ifAccepted k (plannedOf r c d g room))
-      go (checked.Accepted t) q = either (leb (length (planBytes r c d g)) room) (f t (sym q) .len-low)
-      go (checked.Refused x) q = refusal-small x
+  pub number-apart : Apart p
+  number-apart = by-cases Apart refusal-small (λ h. h .len-low)
 
   pub number-small : plannedNumber p ≤ 50912
-  unfolding planAnswer plannedOf
-  number-small = rw e (go (checkOf r c d g) refl)
-    where
-      either : (b : Bool) → length (planBytes r c d g) ≤ 50912
-          → plannedNumber (cond b (Length (length (planBytes r c d g))) (Refused Buffer)) ≤ 50912
-      either true h = h
-      either false h = omega arith
-
-      go : (k : Checked) → checkOf r c d g ≡ k → plannedNumber (ifAccepted k (plannedOf r c d g room)) ≤ 50912
-      go (checked.Accepted t) q = either (leb (length (planBytes r c d g)) room) (f t (sym q) .len-high)
-      go (checked.Refused x) q = omega (arith, refusal-small x)
+  number-small = by-cases (λ q. plannedNumber q ≤ 50912) (λ x. omega (arith, refusal-small x)) (λ h. h .len-high)

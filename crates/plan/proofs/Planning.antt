@@ -4,37 +4,41 @@ use mathlib.Core.Bool.{true}
 use mathlib.Core.List.{List, [], _∷_, map}
 use Prim.Native.Nat.{ℕ, zero, suc, _+_, _*_, _/_, _%_, _^_, _≤_, _<_}
 use native.Mathlib.Decide.{decLt}
-use native.Mathlib.Nat.{mul-zero, mod-lt, div-lt-iff-lt-mul, div-add-mod'}
+use native.Mathlib.Nat.{mul-zero}
 use native.Mathlib.Omega.{arith}
 use lib.ListN.{length, getD, List·getD-eq-default}
 use lib.Dec.{leb, eqb}
 use borrow.Author.Tests.{le-leb, eq-eqb}
-use Rattle.table.proofs.Sums.{list-ext}
-use Rattle.table.specs.Lists.{tabulate, sum, all}
-use Rattle.table.specs.Table.{total, cellPlaces, allPlaces, lines, entryPlaces, gridAt}
+use Rattle.base.proofs.Tabulated.{tabulate-getD}
+use Rattle.base.proofs.Sums.{list-ext}
+use Rattle.base.specs.Lists.{tabulate, sum, all}
+use Rattle.table.specs.Table.{total, cellPlaces, allPlaces, lines, entryPlaces}
 use Rattle.table.specs.Whole.{up, roundsTo}
 use Rattle.table.specs.Shape.{IsTable}
-use Rattle.table.proofs.Lists.{and-left, and-right, and-both, all-intro, all-elim, all-append, all-tabulate}
-use Rattle.table.proofs.GridSums.{cell-at}
+use Rattle.base.proofs.Lists.{and-left, and-right, and-both, all-intro, all-elim, all-append, all-tabulate}
+use Rattle.table.proofs.Sizes.{place-of, shape-of}
+use Rattle.grid.proofs.GridSums.{cell-at}
 use Rattle.rounding.specs.Rounding.{isRounding}
-use Rattle.rounding.proofs.Roundings.{shape-of, rounding-length}
-use Rattle.stored.specs.Plan.{Weighted, arrayAt}
-use Rattle.stored.specs.Form.{planLength, decode}
-use Rattle.stored.specs.Open.{held, weighted, consistent, opens}
-use Rattle.stored.specs.Write.{heldArray, heldPlan, Bounded}
-use Rattle.stored.proofs.Decodings.{WellShaped, tabulate-getD, decode-encode, encode-laid-out}
-use Rattle.stored.proofs.Encodings.{encode-length}
-use Rattle.stored.proofs.Lengths.{plan-least, plan-most}
+use Rattle.rounding.proofs.Roundings.{rounding-length}
+use Rattle.form.specs.Plan.{Weighted, arrayAt}
+use Rattle.form.specs.Form.{planLength, decode}
+use Rattle.opening.specs.Open.{held, weighted, consistent, Opens}
+use Rattle.writing.specs.Write.{bufferedArray, bufferedPlan}
+use Rattle.form.specs.Parts.{Bounded}
+use Rattle.form.proofs.Decodings.{WellShaped, decode-encode, encode-laid-out}
+use Rattle.form.proofs.Encodings.{encode-length}
+use Rattle.opening.proofs.Opening.{opens-by}
+use Rattle.form.proofs.Layouts.{plan-least, plan-most}
 use Rattle.plan.specs.Rounds.{roundsFrom, planOf}
 use Rattle.plan.specs.Call.{planBytes}
 use Rattle.plan.specs.Progress.{Progress}
-use Rattle.plan.specs.Grids.{AllHeld}
+use Rattle.plan.specs.Grids.{AllGathered}
 use Rattle.plan.specs.Promises.{Promises}
 use Rattle.plan.proofs.GridMembers.{cell-in}
 use Rattle.plan.proofs.OneRound.{total-cell}
 use Rattle.plan.proofs.Progressing.{progress-end, end-rounds}
 use Rattle.rounding.proofs.Calls.{array-small}
-use Rattle.plan.proofs.HeldRounds.{few-not-whole}
+use Rattle.plan.proofs.Gathering.{few-not-whole}
 
 -- a number of a list is at most its sum
 at-most-sum : (f : Weighted → ℕ) → f (record { weight = 0; counts = [] }) ≡ 0 → (l : List Weighted) (i : ℕ) → f (arrayAt l i) ≤ sum (map f l)
@@ -53,26 +57,29 @@ unfolding total sum
 total-of-zeros g h [] = refl
 total-of-zeros g h (i ∷ s) = omega (arith, h i, total-of-zeros g h s)
 
-module _ {r c d : ℕ} {g : List ℕ} (t : IsTable r c d g) {k : ℕ} {weights counts : List ℕ} (a : AllHeld r c d g k weights counts) where
-  p : Progress r c d g 0 k (a .held .rest) (a .held .done)
-  p = a .held .progress
+module _ {r c d : ℕ} {g : List ℕ} {k : ℕ} {weights counts : List ℕ} (a : AllGathered r c d g k weights counts) where
+  t : IsTable r c d g
+  t = a .rounds .table
 
-  arrays-are : roundsFrom d r c d g ≡ a .held .done
+  p : Progress r c d g 0 k (a .rounds .rest) (a .rounds .done)
+  p = a .rounds .progress
+
+  arrays-are : roundsFrom d r c d g ≡ a .rounds .done
   arrays-are = progress-end p
 
   count-is : length (roundsFrom d r c d g) ≡ k
   count-is = ap length arrays-are ∙ p .count
 
   -- what is left is nothing
-  left-zero : (i : ℕ) → getD (a .held .rest) i 0 ≡ 0
+  left-zero : (i : ℕ) → getD (a .rounds .rest) i 0 ≡ 0
   left-zero i = go (decLt i (r * c))
     where
-      go : Dec (i < r * c) → getD (a .held .rest) i 0 ≡ 0
-      go (yes h) = omega (arith, p .high (cellPlaces i) (cell-in r c i h), mul-zero (up d (total g (cellPlaces i))), total-cell (a .held .rest) i)
-      go (no h) = List·getD-eq-default (a .held .rest) 0 {n = i} (omega (arith, p .shape .cells))
+      go : Dec (i < r * c) → getD (a .rounds .rest) i 0 ≡ 0
+      go (yes h) = omega (arith, p .high (cellPlaces i) (cell-in r c i h), mul-zero (up d (total g (cellPlaces i))), total-cell (a .rounds .rest) i)
+      go (no h) = List·getD-eq-default (a .rounds .rest) 0 {n = i} (omega (arith, p .shape .cells))
 
   all-sums : (s : List ℕ) → sum (map (λ x. x .weight * total (x .counts) s) (roundsFrom d r c d g)) ≡ total g s
-  all-sums s = rw arrays-are (omega (arith, p .sums s, total-of-zeros (a .held .rest) left-zero s))
+  all-sums s = rw arrays-are (omega (arith, p .sums s, total-of-zeros (a .rounds .rest) left-zero s))
 
   all-weights : sum (map (λ x. x .weight) (roundsFrom d r c d g)) ≡ d
   all-weights = rw arrays-are (omega (arith, p .weights))
@@ -87,9 +94,9 @@ module _ {r c d : ℕ} {g : List ℕ} (t : IsTable r c d g) {k : ℕ} {weights c
   few-arrays = omega (arith, p .most, few-not-whole (t .shape .rows) (t .shape .columns) d g)
 
   some-arrays : 1 ≤ k
-  some-arrays = go (a .held .done) refl
+  some-arrays = go (a .rounds .done) refl
     where
-      go : (l : List Weighted) → a .held .done ≡ l → 1 ≤ k
+      go : (l : List Weighted) → a .rounds .done ≡ l → 1 ≤ k
       go [] e = absurd (omega (arith, p .weights, ap (λ (x : List Weighted). sum (map (λ y. y .weight) x)) e ∙ sum-none, t .some-denominator))
       go (x ∷ l) e = omega (arith, p .count, ap length e)
 
@@ -109,31 +116,28 @@ module _ {r c d : ℕ} {g : List ℕ} (t : IsTable r c d g) {k : ℕ} {weights c
 
     count-small : (j : ℕ) → j < r * c → getD (arrayAt (roundsFrom d r c d g) i .counts) j 0 < 2 ^ 16
     count-small j l =
-        let q : j % c < c = mod-lt j (t .shape .some-columns) in
-        let v : j / c < r = div-lt-iff-lt-mul (t .shape .some-columns) .1 l in
-        let at : gridAt r c (arrayAt (roundsFrom d r c d g) i .counts) (j / c) (j % c) ≡ getD (arrayAt (roundsFrom d r c d g) i .counts) (j / c * c + j % c) 0
-        = cell-at (shape-of (t .shape) _ counts-length) (j / c) (j % c) v q in
-        let place : getD (arrayAt (roundsFrom d r c d g) i .counts) (j / c * c + j % c) 0 ≡ getD (arrayAt (roundsFrom d r c d g) i .counts) j 0
-        = ap (λ (x : ℕ). getD (arrayAt (roundsFrom d r c d g) i .counts) x 0) (div-add-mod' j c) in
-        omega (arith, array-small t _ rounds-at (j / c) (j % c) v q)
+        let p = place-of (t .shape) l in
+        let small = array-small t _ rounds-at (j / c) (j % c) (p .row) (p .column) in
+        let at = rw (cell-at (shape-of (t .shape) _ counts-length) (j / c) (j % c) (p .row) (p .column), p .is) at small in
+        omega arith
 
     weight-small : arrayAt (roundsFrom d r c d g) i .weight ≤ d
     weight-small = omega (arith, at-most-sum (λ x. x .weight) refl (roundsFrom d r c d g) i, all-weights)
 
-    held-is : heldArray (r * c) weights counts i ≡ arrayAt (roundsFrom d r c d g) i
+    held-is : bufferedArray (r * c) weights counts i ≡ arrayAt (roundsFrom d r c d g) i
     held-is =
-        let same : arrayAt (roundsFrom d r c d g) i ≡ arrayAt (a .held .done) i = ap (λ (l : List Weighted). arrayAt l i) arrays-are in
-        let w : getD weights i 0 ≡ arrayAt (roundsFrom d r c d g) i .weight = a .held .weight-at i h ∙ ap (λ (x : Weighted). x .weight) (sym same) in
+        let same : arrayAt (roundsFrom d r c d g) i ≡ arrayAt (a .rounds .done) i = ap (λ (l : List Weighted). arrayAt l i) arrays-are in
+        let w : getD weights i 0 ≡ arrayAt (roundsFrom d r c d g) i .weight = a .rounds .weight-at i h ∙ ap (λ (x : Weighted). x .weight) (sym same) in
         let n : tabulate (r * c) (λ j. getD counts (i * (r * c) + j) 0) ≡ arrayAt (roundsFrom d r c d g) i .counts
         = tabulate-getD (arrayAt (roundsFrom d r c d g) i .counts) (r * c) 0 _ counts-length
-        (λ j l. a .held .count-at i j h l ∙ ap (λ (x : Weighted). getD (x .counts) j 0) (sym same)) in
+        (λ j l. a .rounds .count-at i j h l ∙ ap (λ (x : Weighted). getD (x .counts) j 0) (sym same)) in
         let make : ℕ → List ℕ → Weighted = λ x l. record { weight = x; counts = l } in
         ap₂ make w n
 
-  pub plan-held : heldPlan r c d g k weights counts ≡ planOf r c d g
+  pub plan-held : bufferedPlan (record { rows = r; columns = c; arrays = k; denominator = d }) g weights counts ≡ planOf r c d g
   unfolding planOf
   plan-held =
-      let e : tabulate k (heldArray (r * c) weights counts) ≡ roundsFrom d r c d g = tabulate-getD (roundsFrom d r c d g) k _ _ count-is held-is in
+      let e : tabulate k (bufferedArray (r * c) weights counts) ≡ roundsFrom d r c d g = tabulate-getD (roundsFrom d r c d g) k _ _ count-is held-is in
       rw e refl
 
   shaped : WellShaped (planOf r c d g)
@@ -183,9 +187,9 @@ module _ {r c d : ℕ} {g : List ℕ} (t : IsTable r c d g) {k : ℕ} {weights c
   unfolding planBytes
   bytes-decode = decode-encode shaped
 
-  bytes-open : opens (planBytes r c d g) ≡ true
-  unfolding opens planBytes
-  bytes-open = and-both (encode-laid-out shaped) (ap consistent bytes-decode ∙ is-consistent)
+  bytes-open : Opens (planBytes r c d g)
+  unfolding planBytes
+  bytes-open = opens-by (planBytes r c d g) (encode-laid-out shaped) (ap consistent bytes-decode ∙ is-consistent)
 
   pub bytes-length : length (planBytes r c d g) ≡ planLength r c k
   unfolding planBytes planOf

@@ -2,23 +2,22 @@
 use mathlib.Core.Path.{_≡_, refl, sym, ap, subst, _∙_}
 use mathlib.Core.Bool.{Bool, true}
 use mathlib.Core.List.{List, [], _∷_, _++_, map, append-nil, append-assoc}
-use Prim.Native.Nat.{ℕ, zero, suc, _+_, _-_, _*_, _/_, _%_, _≤_, _<_}
-use native.Mathlib.Decide.{ℕ-discrete}
-use native.Mathlib.Nat.{div-add-mod', mod-lt, add-mul, one-mul}
+use Prim.Native.Nat.{ℕ, zero, suc, _+_, _-_, _*_, _/_, _≤_, _<_}
+use native.Mathlib.Nat.{div-add-mod', add-mul, mul-comm}
 use native.Mathlib.Omega.{arith}
 use lib.ListN.{length, length-append}
 use lib.Dec.{eqb}
 use borrow.Author.Tests.{le-leb, eq-eqb}
-use Rattle.table.proofs.Sums.{list-append}
-use Rattle.table.specs.Lists.{sum, all}
+use Rattle.base.proofs.Sums.{list-append}
+use Rattle.base.specs.Lists.{sum, all}
 use Rattle.table.specs.Table.{total, entryPlaces}
 use Rattle.table.specs.Whole.{down, up, gap, roundsTo}
 use Rattle.table.specs.Shape.{IsTable}
-use Rattle.table.proofs.Lists.{all-append, and-both, all-of-members}
-use Rattle.table.proofs.Roundings.{gap-part, rounds}
+use Rattle.base.proofs.Lists.{all-append, and-both, all-of-members}
+use Rattle.table.proofs.Roundings.{rest-le, rounds}
 use Rattle.rounding.specs.Rounding.{isRounding, IsFirst, firstRounding}
 use Rattle.rounding.proofs.Roundings.{rounding-length}
-use Rattle.stored.specs.Plan.{Weighted}
+use Rattle.form.specs.Plan.{Weighted}
 use Rattle.plan.specs.Rounds.{weightOf, without, roundsFrom, IsRound, AreRounds}
 use Rattle.plan.specs.Progress.{Progress}
 use Rattle.plan.proofs.OneRound.{weight-low, weight-high, rest, rest-shape, rest-total, rest-low, rest-high, array-low, array-high, fewer}
@@ -28,13 +27,7 @@ down-le : (d e : ℕ) → 0 < d → down d e * d ≤ e
 down-le d e p = omega (arith, div-add-mod' e d)
 
 up-ge : (d e : ℕ) → 0 < d → e ≤ up d e * d
-up-ge d e p = go (ℕ-discrete (e % d) 0)
-  where
-    go : Dec (e % d ≡ 0) → e ≤ up d e * d
-    go (yes z) = omega (arith, div-add-mod' e d, add-mul (e / d) (gap d e) d)
-    go (no z) =
-        let one : gap d e * d ≡ d = ap (λ (x : ℕ). x * d) (gap-part d e z) ∙ one-mul d in
-        omega (arith, div-add-mod' e d, mod-lt e p, add-mul (e / d) (gap d e) d)
+up-ge d e p = omega (arith, div-add-mod' e d, rest-le d e p, add-mul (e / d) (gap d e) d, mul-comm d (gap d e))
 
 pub progress-start : {r c d : ℕ} {g : List ℕ} → IsTable r c d g → Progress r c d g d 0 g []
 unfolding sum all

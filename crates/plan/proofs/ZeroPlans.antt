@@ -1,8 +1,7 @@
 -- The plan of a table with all cells 0, of every size and denominator. Assumes nothing.
 use mathlib.Core.Path.{_≡_, refl, ap, _∙_}
-use mathlib.Core.Logic.{inl, inr}
 use mathlib.Core.List.{List, [], _∷_}
-use Prim.Native.Nat.{ℕ, zero, suc, _-_, _*_, _≤_}
+use Prim.Native.Nat.{ℕ, zero, suc, _+_, _-_, _*_, _≤_}
 use native.Mathlib.Nat.{div-le-self, zero-div}
 use native.Mathlib.Omega.{arith}
 use lib.ListN.{getD, replicate, length-replicate}
@@ -10,12 +9,12 @@ use borrow.Author.Tests.{eq-eqb}
 use Rattle.table.specs.Table.{total, entryPlaces}
 use Rattle.table.specs.Whole.{roundsTo}
 use Rattle.table.specs.Shape.{Shape}
-use Rattle.table.proofs.Lists.{and-both, all-of-members}
+use Rattle.base.proofs.Lists.{and-both, all-of-members}
 use Rattle.table.proofs.Roundings.{rounds}
-use Rattle.rounding.specs.Order.{Before}
 use Rattle.rounding.specs.Rounding.{isRounding, IsFirst, firstRounding}
+use Rattle.rounding.proofs.Orders.{before-at}
 use Rattle.rounding.proofs.Roundings.{first-is}
-use Rattle.stored.specs.Plan.{Weighted}
+use Rattle.form.specs.Plan.{Weighted}
 use Rattle.plan.specs.Rounds.{limitOf, weightOf, without, roundsFrom, planOf}
 use Rattle.plan.proofs.OneRound.{attains}
 use Rattle.plan.proofs.Planning.{total-of-zeros}
@@ -25,13 +24,6 @@ zero-at : (n i : ℕ) → _≡_ {A = ℕ} (getD (replicate n 0) i 0) 0
 zero-at zero i = refl
 zero-at (suc n) zero = refl
 zero-at (suc n) (suc i) = zero-at n i
-
-none-before : (n : ℕ) (k : List ℕ) → Before k (replicate n 0) → ⊥
-none-before zero [] b = b
-none-before zero (x ∷ k) b = b
-none-before (suc n) [] b = b
-none-before (suc n) (x ∷ k) (inl l) = omega arith
-none-before (suc n) (x ∷ k) (inr e) = none-before n k (e .1)
 
 -- a round that takes all the weight is the last
 one-round : (r c fuel w : ℕ) → 1 ≤ w → (g n : List ℕ) → firstRounding r c w g ≡ n → weightOf r c w g (firstRounding r c w g) ≡ w
@@ -67,7 +59,7 @@ module _ (r c d : ℕ) (hr : 1 ≤ r) (kr : r ≤ 12) (hc : 1 ≤ c) (kc : c ≤
     rounding = and-both (eq-eqb _ _ (length-replicate {A = ℕ} (r * c) 0))
         (all-of-members (λ s. roundsTo d (total zeros s) (total zeros s)) (entryPlaces r c)
         (λ s m. rw (nothing s) (rounds d 0 0 (div-le-self 0 d) (omega arith))));
-    first = λ k h b. none-before (r * c) k b;
+    first = λ k h b. let d = before-at shape k zeros b in omega (arith, d .less, zero-at (r * c) (d .row * c + d .column));
   }
 
   array-is : firstRounding r c d zeros ≡ zeros

@@ -1,14 +1,15 @@
 -- The call "plan" (01, "Stored plan, form 1" and "Turned back": 1, 2, 3, 4, 7). Assumes nothing.
-use mathlib.Core.Bool.{cond}
-use mathlib.Core.List.{List}
+use mathlib.Core.List.{List, [], _∷_, _++_}
+use mathlib.Core.Option.{Option}
 use Prim.Native.Nat.{ℕ, _<_, _≤_}
 use lib.ListN.{length}
-use lib.Dec.{leb}
-use Rattle.table.specs.Check.{numberOf, checkOf}
-use Rattle.table.specs.declared.Checked.{Checked}
-use Rattle.table.specs.declared.Checked.the-variants as checked
-use Rattle.table.specs.declared.Refusal.the-variants.{Buffer}
-use Rattle.stored.specs.Form.{encode}
+use lib.Dec.{ltb}
+use Rattle.refusals.specs.Numbers.{numberOf}
+use Rattle.refusals.specs.declared.Refusal.{Refusal}
+use Rattle.refusals.specs.declared.Refusal.the-variants.{Buffer}
+use Rattle.refusals.specs.Due.{Test, refuse, due, refusedOr}
+use Rattle.table.specs.Check.{tableTests}
+use Rattle.form.specs.Form.{encode}
 use Rattle.plan.specs.declared.Planned.{Planned}
 use Rattle.plan.specs.declared.Planned.the-variants.{Length, Refused}
 use Rattle.plan.specs.Rounds.{planOf}
@@ -17,18 +18,17 @@ use Rattle.plan.specs.Rounds.{planOf}
 unfoldable pub planBytes : ℕ → ℕ → ℕ → List ℕ → List ℕ
 planBytes r c d g = encode (planOf r c d g)
 
--- a refusal of the table comes first, and then what else may apply
-abbrev pub ifAccepted : Checked → Planned → Planned
-ifAccepted (checked.Accepted t) rest = rest
-ifAccepted (checked.Refused x) rest = Refused x
+-- the refusals of the call, with a buffer of `room` bytes: those of the table, 1 to 4; 7, the buffer is shorter than the plan
+-- ("a buffer of just that length is enough")
+abbrev pub planTests : ℕ → ℕ → ℕ → List ℕ → ℕ → List Test
+planTests r c d g room = tableTests r c d g ++ (refuse Buffer (ltb room (length (planBytes r c d g))) ∷ [])
 
--- the answer for an accepted table and a buffer of `room` bytes: 7, or the length; "a buffer of just that length is enough"
-unfoldable pub plannedOf : ℕ → ℕ → ℕ → List ℕ → ℕ → Planned
-plannedOf r c d g room = cond (leb (length (planBytes r c d g)) room) (Length (length (planBytes r c d g))) (Refused Buffer)
+unfoldable pub planRefusal : ℕ → ℕ → ℕ → List ℕ → ℕ → Option Refusal
+planRefusal r c d g room = due (planTests r c d g room)
 
--- the answer for any table and such a buffer: 1 to 4, else that of an accepted table
+-- "Planning writes this form at the start of the lent buffer and returns the length"
 unfoldable pub planAnswer : ℕ → ℕ → ℕ → List ℕ → ℕ → Planned
-planAnswer r c d g room = ifAccepted (checkOf r c d g) (plannedOf r c d g room)
+planAnswer r c d g room = refusedOr Refused (Length (length (planBytes r c d g))) (planRefusal r c d g room)
 
 -- the number returned: the length (30 or more), or the refusal's
 abbrev pub plannedNumber : Planned → ℕ
@@ -39,8 +39,3 @@ plannedNumber (Refused x) = numberOf x
 abbrev pub Apart : Planned → Type 0
 Apart (Length n) = 30 ≤ n
 Apart (Refused x) = numberOf x < 30
-
--- "On a refusal every lent buffer [..] keeps its contents.": the buffer after an answer, of the new contents and the old
-abbrev pub afterPlan : Planned → List ℕ → List ℕ → List ℕ
-afterPlan (Length n) new old = new
-afterPlan (Refused x) new old = old

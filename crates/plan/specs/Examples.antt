@@ -3,13 +3,13 @@ use mathlib.Core.Bool.{Bool, true, false}
 use mathlib.Core.List.{List, [], _∷_, map}
 use Prim.Native.Nat.{ℕ, _*_}
 use lib.ListN.{replicate}
-use Rattle.table.specs.Lists.{tabulate, least}
+use Rattle.base.specs.Lists.{tabulate, least}
 use Rattle.table.specs.Table.{total, cellPlaces}
 use Rattle.table.specs.Check.{checkedNumber, checkOf}
 use Rattle.rounding.specs.Rounding.{isRounding}
-use Rattle.stored.specs.Plan.{Plan}
-use Rattle.stored.specs.Form.{encode}
-use Rattle.stored.specs.Open.{openAnswer, openedNumber}
+use Rattle.form.specs.Plan.{Plan}
+use Rattle.form.specs.Form.{encode}
+use Rattle.opening.specs.Open.{openAnswer, openedNumber}
 use Rattle.plan.specs.Rounds.{limitOf, weightOf, planOf}
 
 -- a table and its plan: for each array the weight, then the counts

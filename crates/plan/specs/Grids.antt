@@ -4,13 +4,22 @@ use mathlib.Core.Bool.{true}
 use mathlib.Core.List.{List}
 use Prim.Native.Nat.{ℕ, _+_, _-_, _*_, _≤_, _<_}
 use lib.ListN.{length, getD}
-use Rattle.table.specs.Table.{gridOf, maxDenominator, maxEntry}
+use Rattle.grid.specs.Grid.{gridOf}
+use Rattle.table.specs.Table.{maxArrays, maxDenominator, maxEntry}
 use Rattle.table.specs.Whole.{roundsTo}
-use Rattle.table.specs.Shape.{Shape}
+use Rattle.table.specs.Shape.{Shape, IsTable}
 use Rattle.rounding.specs.Rounding.{IsFirst, firstRounding}
-use Rattle.stored.specs.Plan.{Weighted, arrayAt}
+use Rattle.rounding.specs.Lines.{IsGrid}
+use Rattle.form.specs.Plan.{Weighted, arrayAt}
 use Rattle.plan.specs.Rounds.{limitOf, weightOf, without}
 use Rattle.plan.specs.Progress.{Progress}
+
+-- an entry e and a count n that rounds it over w, with numbers that are small
+pub record LimitReady (w e n : ℕ) : Type 0 where
+  pub some : 0 < w
+  pub small : w ≤ maxDenominator
+  pub entry-small : e ≤ maxEntry
+  pub rounds : roundsTo w e n ≡ true
 
 -- counts that round the entries over w, with numbers that are small: 144 · 1000 · 65,535 is the largest entry
 pub record Rounded (w : ℕ) (e n : List ℕ) : Type 0 where
@@ -19,10 +28,9 @@ pub record Rounded (w : ℕ) (e n : List ℕ) : Type 0 where
   pub entry-small : (k : ℕ) → getD e k 0 ≤ maxEntry
   pub rounds : (k : ℕ) → k < 169 → roundsTo w (getD e k 0) (getD n k 0) ≡ true
 
--- l has the limit of each entry
-pub record Limits (w : ℕ) (e n l : List ℕ) : Type 0 where
-  pub len : length l ≡ 169
-  pub is : (k : ℕ) → k < 169 → getD l k 0 ≡ limitOf w (getD e k 0) (getD n k 0)
+-- the limit of each entry
+abbrev pub limitAt : ℕ → List ℕ → List ℕ → ℕ → ℕ
+limitAt w e n k = limitOf w (getD e k 0) (getD n k 0)
 
 -- x is the smallest of 169 numbers
 pub record Smallest (l : List ℕ) (x : ℕ) : Type 0 where
@@ -42,6 +50,13 @@ pub record Lost (x : ℕ) (e n e' : List ℕ) : Type 0 where
   pub len : length e' ≡ 169
   pub is : (k : ℕ) → k < 169 → getD e' k 0 ≡ getD e k 0 - x * getD n k 0
 
+-- what a round needs: entries, a weight that is left, and room for counts
+pub record RoundReady (w : ℕ) (e n : List ℕ) : Type 0 where
+  pub grid : IsGrid e
+  pub some : 0 < w
+  pub small : w ≤ maxDenominator
+  pub len : length n ≡ 169
+
 -- one round: for the table that has the entries e, n has the array's, x is its weight, and e' has the entries of what is left
 pub record RoundDone (w : ℕ) (e n : List ℕ) (x : ℕ) (e' : List ℕ) : Type 0 where
   pub first : (r c : ℕ) (g : List ℕ) → Shape r c g → e ≡ gridOf r c g → IsFirst r c w g (firstRounding r c w g)
@@ -49,18 +64,23 @@ pub record RoundDone (w : ℕ) (e n : List ℕ) (x : ℕ) (e' : List ℕ) : Type
   pub weight : (r c : ℕ) (g : List ℕ) → Shape r c g → e ≡ gridOf r c g → x ≡ weightOf r c w g (firstRounding r c w g)
   pub left : (r c : ℕ) (g : List ℕ) → Shape r c g → e ≡ gridOf r c g → e' ≡ gridOf r c (without x (firstRounding r c w g) g)
 
--- where the rounds stand: what is left, and the weights and arrays so far, in a scratch for 170 weights and 170 · 144 counts
-pub record Held (r c d : ℕ) (g : List ℕ) (w k : ℕ) (e weights counts : List ℕ) : Type 0 where
+-- the counts of the largest plan: 170 arrays of 144 cells
+abbrev pub maxCounts : ℕ
+maxCounts = 24480
+
+-- where the rounds stand: what is left, and the weights and arrays so far, in a scratch for those of the largest plan
+pub record Gathered (r c d : ℕ) (g : List ℕ) (w k : ℕ) (e weights counts : List ℕ) : Type 0 where
+  pub table : IsTable r c d g
   pub rest : List ℕ
   pub done : List Weighted
   pub progress : Progress r c d g w k rest done
   pub grid : e ≡ gridOf r c rest
-  pub weights-len : length weights ≡ 170
-  pub counts-len : length counts ≡ 24480
+  pub weights-len : length weights ≡ maxArrays
+  pub counts-len : length counts ≡ maxCounts
   pub weight-at : (i : ℕ) → i < k → getD weights i 0 ≡ arrayAt done i .weight
   pub count-at : (i j : ℕ) → i < k → j < r * c → getD counts (i * (r * c) + j) 0 ≡ getD (arrayAt done i .counts) j 0
 
 -- no weight is left
-pub record AllHeld (r c d : ℕ) (g : List ℕ) (k : ℕ) (weights counts : List ℕ) : Type 0 where
+pub record AllGathered (r c d : ℕ) (g : List ℕ) (k : ℕ) (weights counts : List ℕ) : Type 0 where
   pub e : List ℕ
-  pub held : Held r c d g 0 k e weights counts
+  pub rounds : Gathered r c d g 0 k e weights counts

@@ -5,12 +5,12 @@ use mathlib.Core.List.{List, _++_, map, List·Memᴰ as Member}
 use Prim.Native.Nat.{ℕ, _+_, _*_, _≤_, _<_}
 use lib.ListN.{length}
 use lib.Dec.{leb}
-use Rattle.table.specs.Lists.{sum, all}
+use Rattle.base.specs.Lists.{sum, all}
 use Rattle.table.specs.Table.{total, entryPlaces}
 use Rattle.table.specs.Whole.{down, up}
 use Rattle.table.specs.Shape.{Shape}
 use Rattle.rounding.specs.Rounding.{isRounding}
-use Rattle.stored.specs.Plan.{Weighted}
+use Rattle.form.specs.Plan.{Weighted}
 use Rattle.plan.specs.Rounds.{roundsFrom, AreRounds, notWhole}
 
 -- `done` are the arrays of the first k rounds, `left` is the remaining table over the remaining weight w

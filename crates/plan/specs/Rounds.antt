@@ -4,11 +4,11 @@ use mathlib.Core.Bool.{cond}
 use mathlib.Core.List.{List, [], _∷_, map, zipWith}
 use Prim.Native.Nat.{ℕ, zero, suc, _+_, _-_, _*_, _<_}
 use lib.Dec.{eqb}
-use Rattle.table.specs.Lists.{sum, least}
+use Rattle.base.specs.Lists.{sum, least}
 use Rattle.table.specs.Table.{total, entryPlaces}
 use Rattle.table.specs.Whole.{down, gap}
 use Rattle.rounding.specs.Rounding.{IsFirst, firstRounding}
-use Rattle.stored.specs.Plan.{Weighted, Plan}
+use Rattle.form.specs.Plan.{Weighted, Plan}
 
 -- "Each entry has a limit: if its count n is the entry rounded down, the limit is (n+1)·W − entry (so W for a whole entry); if it is rounded up,
 -- entry − (n−1)·W."

@@ -3,24 +3,25 @@ ghost use mathlib.Core.Path.{_≡_};
 ghost use mathlib.Core.Bool.{true, not};
 ghost use mathlib.Core.List.{[], _∷_, map};
 ghost use Prim.Native.Nat.{ℕ, _*_, _≤_};
-ghost use lib.ListN.{length, replicate};
+ghost use lib.ListN.{replicate};
 ghost use lib.Dec.{eqb};
-ghost use Rattle.table.specs.Answer.{written};
-ghost use Rattle.table.specs.Check.{checkOf};
-ghost use Rattle.table.specs.Lists.{tabulate, all};
+ghost use Rattle.base.specs.Lists.{tabulate, all};
 ghost use Rattle.table.specs.Shape.{IsTable};
-ghost use Rattle.stored.specs.Plan.{arrayFor};
+ghost use Rattle.form.specs.Plan.{arrayFor};
+ghost use Rattle.form.specs.Form.{maxLength};
 ghost use Rattle.plan.specs.Rounds.{planOf};
-ghost use Rattle.plan.specs.Call.{planBytes, planAnswer, plannedOf, plannedNumber, afterPlan};
+ghost use Rattle.plan.specs.Call.{plannedNumber};
 ghost use Rattle.plan.specs.Examples.{examples, planned, drawsOfFirst, bounds, checked, slips};
-ghost use Rattle.plan.specs.Promises.{Promises};
+ghost use Rattle.plan.specs.Promises.{PlanAnswers};
 use crate::rounds::rounds;
-use stored::layout::plan_length;
-use stored::write::write;
+use base::convert::u64_to_u32;
+use form::Sizes;
+use form::layout::plan_length;
+use refusals::Refusal;
 use table::Checked;
-use table::Refusal;
 use table::Table;
 use table::check::check;
+use writing::write;
 
 mod limits;
 mod round;
@@ -32,68 +33,55 @@ pub enum Planned {
     Refused(Refusal),
 }
 
+// How many weights the largest plan has.
+const WEIGHTS: usize = 170;
+
+// How many counts the largest plan has: 170 arrays of 144 cells.
+const COUNTS: usize = 24480;
+
 // Plans an accepted table: the rounds run once, into a scratch of this function, before anything is written.
-fn plan_table(
-    rows: usize,
-    columns: usize,
-    denominator: u32,
-    cells: &[u32],
-    plan: &mut [u8],
-) -> Planned
-    requires { ⌜ IsTable rows columns denominator (now cells) ⌝ }
-    ensures answer { λ r. ⌜ r ≡ plannedOf rows columns denominator (now (cells .entry)) (length (now (plan .entry))) ⌝ }
-    ensures buffer { λ r. ⌜ now (plan .exit) ≡ afterPlan r (written (planBytes rows columns denominator (now (cells .entry))) (now (plan .entry))) (now (plan .entry)) ⌝ }
-    ensures promises { λ _. ⌜ Promises rows columns denominator (now (cells .entry)) ⌝ }
+fn plan_table(t: Table, cells: &[u32], plan: &mut [u8]) -> Planned
+    requires { ⌜ IsTable (t .rows) (t .columns) (t .denominator) (now cells) ⌝ }
+    ensures { λ r. ⌜ PlanAnswers (t .rows) (t .columns) (t .denominator) (now (cells .entry)) (now (plan .entry)) r (now (plan .exit)) ⌝ }
 {
-    let mut weights = [0u32; 170];
-    let mut counts = [0u16; 24480];
-    let arrays = rounds(
-        rows,
-        columns,
-        denominator as u64,
-        cells,
-        &mut weights,
-        &mut counts,
-    );
+    let rows = t.rows;
+    let columns = t.columns;
+    let mut weights = [0u32; WEIGHTS];
+    let mut counts = [0u16; COUNTS];
+    let arrays = rounds(t, cells, &mut weights, &mut counts);
     let length = plan_length(rows, columns, arrays);
     if plan.len() < length {
         return Planned::Refused(Refusal::Buffer);
     }
-    write(
+    let s = Sizes {
         rows,
         columns,
-        denominator,
-        cells,
         arrays,
-        &weights,
-        &counts,
-        plan,
-    );
+        denominator: u64_to_u32(t.denominator),
+    };
+    write(s, cells, &weights, &counts, plan);
     Planned::Length(length)
 }
 
 // Writes the stored plan of a table and returns its length, or the lowest refusal that applies.
 pub fn plan(rows: u32, columns: u32, denominator: u32, cells: &[u32], plan: &mut [u8]) -> Planned
-    ensures answer { λ r. ⌜ r ≡ planAnswer rows columns denominator (now (cells .entry)) (length (now (plan .entry))) ⌝ }
-    ensures buffer { λ r. ⌜ now (plan .exit) ≡ afterPlan r (written (planBytes rows columns denominator (now (cells .entry))) (now (plan .entry))) (now (plan .entry)) ⌝ }
-    ensures promises { λ _. ⌜ ((t : Table) → Checked.Accepted t ≡ checkOf rows columns denominator (now (cells .entry))
-        → Promises rows columns denominator (now (cells .entry))) ⌝ }
+    ensures { λ r. ⌜ PlanAnswers rows columns denominator (now (cells .entry)) (now (plan .entry)) r (now (plan .exit)) ⌝ }
 {
     let checked = check(rows, columns, denominator, cells);
     match checked {
         Checked::Refused(x) => Planned::Refused(x),
-        Checked::Accepted(t) => plan_table(t.rows, t.columns, denominator, cells, plan),
+        Checked::Accepted(t) => plan_table(t, cells, plan),
     }
 }
 
 // The number that an answer stands for: the length, which is 30 or more, or the refusal's.
 pub fn planned_number(r: Planned) -> u32
-    requires { ⌜ plannedNumber r ≤ 50912 ⌝ }
+    requires { ⌜ plannedNumber r ≤ maxLength ⌝ }
     ensures { λ n. ⌜ n ≡ plannedNumber r ⌝ }
 {
     match r {
         Planned::Length(n) => n as u32,
-        Planned::Refused(x) => table::number(x),
+        Planned::Refused(x) => refusals::number(x),
     }
 }
 

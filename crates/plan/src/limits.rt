@@ -1,16 +1,14 @@
 // The limits of a round, and its weight.
 ghost use mathlib.Core.Path.{_≡_};
-ghost use mathlib.Core.Bool.{true};
-ghost use Prim.Native.Nat.{_≤_, _<_, min};
+ghost use Prim.Native.Nat.{min};
 ghost use lib.ListN.{length};
-ghost use Rattle.table.specs.Table.{maxDenominator, maxEntry};
-ghost use Rattle.table.specs.Whole.{roundsTo};
+ghost use Rattle.base.specs.Lists.{tabulate};
 ghost use Rattle.plan.specs.Rounds.{limitOf};
-ghost use Rattle.plan.specs.Grids.{Rounded, Limits, Smallest, Bears, Lost};
+ghost use Rattle.plan.specs.Grids.{LimitReady, Rounded, limitAt, Smallest, Bears, Lost};
 
 // The limit of an entry e over w whose count is n: how much weight it bears until it leaves its bounds.
 pub fn limit(w: u64, e: u64, n: u64) -> u64
-    requires { ⌜ ((0 < w) × (w ≤ maxDenominator)) × ((e ≤ maxEntry) × (roundsTo w e n ≡ true)) ⌝ }
+    requires { ⌜ LimitReady w e n ⌝ }
     ensures { λ r. ⌜ r ≡ limitOf w e n ⌝ }
 {
     let whole = n * w;
@@ -24,7 +22,7 @@ pub fn limit(w: u64, e: u64, n: u64) -> u64
 // The limits of all entries.
 pub fn limits(w: u64, e: &[u64; 169], n: &[u64; 169], l: &mut [u64; 169])
     requires { ⌜ Rounded w (now e) (now n) × (length (now l) ≡ 169) ⌝ }
-    ensures { λ _. ⌜ Limits w (now (e .entry)) (now (n .entry)) (now (l .exit)) ⌝ }
+    ensures { λ _. ⌜ now (l .exit) ≡ tabulate 169 (limitAt w (now (e .entry)) (now (n .entry))) ⌝ }
 {
     for k in 0..169 {
         l[k] = limit(w, e[k], n[k]);

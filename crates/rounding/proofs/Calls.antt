@@ -1,50 +1,51 @@
 -- From an accepted table to the buffer that its rounding is written to. Assumes nothing.
-use mathlib.Core.Path.{_≡_, refl, sym, ap, _∙_}
+use mathlib.Core.Path.{_≡_, ap, _∙_}
 use mathlib.Core.Bool.{true}
 use mathlib.Core.List.{List}
+use mathlib.Core.Option.{Option, some, none}
 use Prim.Native.Nat.{ℕ, _+_, _*_, _/_, _%_, _<_, _≤_}
-use native.Mathlib.Nat.{div-add-mod', mod-lt, div-lt-iff-lt-mul, div-le-of-le-mul, mul-comm}
+use native.Mathlib.Nat.{div-le-of-le-mul, mul-comm}
 use native.Mathlib.Omega.{arith}
 use lib.ListN.{length, getD}
-use lib.Seq.{ext-getD}
-use borrow.Author.Tests.{le-leb, lt-leb}
-use Rattle.table.specs.Lists.{tabulate}
-use Rattle.table.specs.Table.{gridAt, gridOf}
+use Rattle.base.specs.Lists.{tabulate}
+use Rattle.grid.specs.Grid.{gridAt, gridOf}
 use Rattle.table.specs.Shape.{Shape, IsTable}
-use Rattle.table.specs.Fill.{Filled}
-use Rattle.table.specs.Answer.{written}
+use Rattle.base.specs.Fill.{Filled}
+use Rattle.base.specs.Buffers.{written}
+use Rattle.refusals.specs.declared.Answer.the-variants.{Refused}
+use Rattle.refusals.specs.Due.{Answers}
+use Rattle.refusals.proofs.Dues.{refused-so}
 use Rattle.table.specs.Check.{checkOf}
 use Rattle.table.specs.declared.Table.{Table}
-use Rattle.table.specs.declared.Refusal.{Refusal}
-use Rattle.table.specs.declared.Refusal.the-variants.{Buffer}
+use Rattle.refusals.specs.declared.Refusal.{Refusal}
+use Rattle.refusals.specs.declared.Refusal.the-variants.{Buffer}
 use Rattle.table.specs.declared.Checked.{Checked}
 use Rattle.table.specs.declared.Checked.the-variants as checked
-use Rattle.table.specs.declared.Answer.the-variants.{Done, Refused}
-use Rattle.table.proofs.Lists.{length-tabulate, getD-tabulate}
-use Rattle.table.proofs.Checks.{accepted}
-use Rattle.table.proofs.Totals.{grid-at}
-use Rattle.table.proofs.GridSums.{cell-at}
-use Rattle.table.proofs.EntryBounds.{cell-at-most, grid-small}
+use Rattle.base.proofs.Tabulated.{tabulate-getD}
+use Rattle.table.proofs.Sizes.{place-of, shape-of}
+use Rattle.table.proofs.Checks.{Taken}
+use Rattle.table.proofs.Tables.{taken, not-taken, refused-table, refused-buffer, refused-nothing}
+use Rattle.grid.proofs.GridPlaces.{grid-at}
+use Rattle.grid.proofs.GridSums.{cell-at}
+use Rattle.table.proofs.EntryBounds.{cell-at-most}
+use Rattle.grid.proofs.GridBounds.{grid-small}
 use Rattle.table.proofs.Roundings.{gap-le, rounds-high}
-use Rattle.table.proofs.Filling.{filled-written}
+use Rattle.base.proofs.Filling.{filled-written}
 use Rattle.rounding.specs.Rounding.{isRounding, IsFirst, firstRounding}
-use Rattle.rounding.specs.Lines.{cellIn, IsGrid, RoundedGrid, Ready}
-use Rattle.rounding.specs.Call.{roundAnswer}
-use Rattle.rounding.proofs.Roundings.{shape-of, rounding-length, rounding-grid}
+use Rattle.rounding.specs.Lines.{gridCell, IsGrid, RoundedGrid, Ready}
+use Rattle.rounding.specs.Call.{roundRefusal}
+use Rattle.rounding.proofs.Roundings.{rounding-length, rounding-grid}
 
 -- the cells of a grid are the list's
-pub cell-of-grid : {r c : ℕ} {n : List ℕ} → Shape r c n → (k : ℕ) → k < r * c → cellIn (gridOf r c n) c k ≡ getD n k 0
+pub cell-of-grid : {r c : ℕ} {n : List ℕ} → Shape r c n → (k : ℕ) → k < r * c → gridCell (gridOf r c n) c k ≡ getD n k 0
 cell-of-grid {r} {c} {n} s k h =
-    let q : k % c < c = mod-lt k (s .some-columns) in
-    let p : k / c < r = div-lt-iff-lt-mul (s .some-columns) .1 h in
-    grid-at r c n (k / c) (k % c) (omega (arith, s .rows)) (omega (arith, s .columns))
-    ∙ cell-at s (k / c) (k % c) p q
-    ∙ ap (λ (i : ℕ). getD n i 0) (div-add-mod' k c)
+    let p = place-of s h in
+    grid-at r c n (k / c) (k % c) (omega (arith, p .row-small)) (omega (arith, p .column-small))
+    ∙ cell-at s (k / c) (k % c) (p .row) (p .column)
+    ∙ ap (λ (i : ℕ). getD n i 0) (p .is)
 
-pub cells-of-grid : {r c : ℕ} {n : List ℕ} → Shape r c n → tabulate (r * c) (cellIn (gridOf r c n) c) ≡ n
-cells-of-grid {r} {c} {n} s =
-    ext-getD 0 _ n (length-tabulate (r * c) _ ∙ sym (s .cells))
-    (λ k h. let l : k < r * c = omega (arith, length-tabulate (r * c) (cellIn (gridOf r c n) c)) in getD-tabulate (r * c) _ k 0 l ∙ cell-of-grid s k l)
+pub cells-of-grid : {r c : ℕ} {n : List ℕ} → Shape r c n → tabulate (r * c) (gridCell (gridOf r c n) c) ≡ n
+cells-of-grid {r} {c} {n} s = tabulate-getD n (r * c) 0 _ (s .cells) (cell-of-grid s)
 
 module _ {r c d : ℕ} {g : List ℕ} (t : IsTable r c d g) where
   pub table-grid : (e : List ℕ) → e ≡ gridOf r c g → IsGrid e
@@ -59,6 +60,19 @@ module _ {r c d : ℕ} {g : List ℕ} (t : IsTable r c d g) where
       let bound : gridAt r c g i j ≤ d * 1000 = omega (arith, cell-at-most t (i * c + j), mul-comm d 1000) in
       omega (arith, gap-le d (gridAt r c g i j), div-le-of-le-mul d bound)
 
+  -- the cells of a controlled rounding that is held as a grid can be written
+  pub rounding-ready : (a : List ℕ) → isRounding r c d g a ≡ true → {n : List ℕ} {room at : ℕ} → n ≡ gridOf r c a → at + r * c ≤ room → Ready n r c room at
+  rounding-ready a h {n} is fits = record {
+    some-columns = t .shape .some-columns;
+    columns-small = t .shape .columns;
+    rows-small = t .shape .rows;
+    fits = fits;
+    small = λ i j hi hj.
+        let at : getD n (i * 13 + j) 0 ≡ gridAt r c a i j =
+        ap (λ (l : List ℕ). getD l (i * 13 + j) 0) is ∙ grid-at r c a i j (omega (arith, t .shape .rows)) (omega (arith, t .shape .columns)) in
+        omega (arith, array-small a h i j hi hj);
+  }
+
   module _ {e n : List ℕ} (is : e ≡ gridOf r c g) (o : RoundedGrid d e n) where
     array : List ℕ
     array = firstRounding r c d g
@@ -70,60 +84,43 @@ module _ {r c d : ℕ} {g : List ℕ} (t : IsTable r c d g) where
     unfolding array
     array-shape = shape-of (t .shape) array (rounding-length (t .shape) d array (array-first .rounding))
 
-    count-small : (i j : ℕ) → i < r → j < c → getD n (i * 13 + j) 0 ≤ 65535
-    unfolding array
-    count-small i j hi hj =
-        let at : getD n (i * 13 + j) 0 ≡ gridAt r c array i j =
-        ap (λ (l : List ℕ). getD l (i * 13 + j) 0) (o .is r c g (t .shape) is)
-        ∙ grid-at r c array i j (omega (arith, t .shape .rows)) (omega (arith, t .shape .columns)) in
-        omega (arith, array-small array (array-first .rounding) i j hi hj)
-
     pub cells-ready : (room : ℕ) → r * c ≤ room → Ready n r c room 0
-    cells-ready room h = record {
-      some-columns = t .shape .some-columns;
-      columns-small = t .shape .columns;
-      rows-small = t .shape .rows;
-      fits = omega arith;
-      small = count-small;
-    }
+    cells-ready room h = rounding-ready _ (array-first .rounding) (o .is r c g (t .shape) is) (omega arith)
 
-    pub rounding-written : {old new : List ℕ} → r * c ≤ length old → Filled (cellIn n c) 0 old new (r * c) → new ≡ written (firstRounding r c d g) old
+    pub rounding-written : {old new : List ℕ} → r * c ≤ length old → Filled (gridCell n c) 0 old new (r * c) → new ≡ written (firstRounding r c d g) old
     unfolding array
     rounding-written {old} {new} h f =
         filled-written f h
         ∙ ap (λ (l : List ℕ). written l old)
-        (ap (λ (l : List ℕ). tabulate (r * c) (cellIn l c)) (o .is r c g (t .shape) is) ∙ cells-of-grid array-shape)
+        (ap (λ (l : List ℕ). tabulate (r * c) (gridCell l c)) (o .is r c g (t .shape) is) ∙ cells-of-grid array-shape)
 
 -- the ways through the call
-module _ (r c d : ℕ) (g : List ℕ) (room : ℕ) where
-  pub refused-table : (k : Checked) (x : Refusal) → k ≡ checkOf r c d g → k ≡ checked.Refused x → Refused x ≡ roundAnswer r c d g room
-  unfolding roundAnswer
-  refused-table k x e h = rw (← e, h) refl
+module _ (r c d : ℕ) (g : List ℕ) (room : ℕ) {k : Checked} (e : k ≡ checkOf r c d g) where
+  pub refused : {x : Refusal} → k ≡ checked.Refused x → roundRefusal r c d g room ≡ some x
+  unfolding roundRefusal
+  refused h = refused-table r c d g room (r * c) _ (not-taken r c d g e _ h)
 
-  module _ (k : Checked) (t : Table) (e : k ≡ checkOf r c d g) (h : k ≡ checked.Accepted t) where
-    told : IsTable r c d g × (t ≡ record { rows = r; columns = c; denominator = d })
-    told = accepted r c d g t (sym h ∙ e)
+  module _ {t : Table} (h : k ≡ checked.Accepted t) where
+    told : Taken r c d g t
+    told = taken r c d g e t h
 
     pub is-table : IsTable (t .rows) (t .columns) (t .denominator) g
-    is-table = rw (told .1) (told .0)
+    is-table = rw (told .sizes) (told .table)
 
-    pub short : room < t .rows * t .columns → Refused Buffer ≡ roundAnswer r c d g room
-    unfolding roundAnswer
-    short l =
-        let m : room < r * c = rw (told .1) at l in
-        rw (← e, h) (simp (lt-leb (r * c) room m))
+    pub short : room < t .rows * t .columns → roundRefusal r c d g room ≡ some Buffer
+    unfolding roundRefusal
+    short l = refused-buffer r c d g room (r * c) (told .nothing-due) (rw (told .sizes) at l)
 
-    pub enough : t .rows * t .columns ≤ room → Done ≡ roundAnswer r c d g room
-    unfolding roundAnswer
-    enough l =
-        let m : r * c ≤ room = rw (told .1) at l in
-        rw (← e, h) (simp (le-leb (r * c) room m))
+    pub enough : t .rows * t .columns ≤ room → roundRefusal r c d g room ≡ none
+    unfolding roundRefusal
+    enough l = refused-nothing r c d g room (r * c) (told .nothing-due) (rw (told .sizes) at l)
 
     pub done : (old new : List ℕ)
         → IsFirst (t .rows) (t .columns) (t .denominator) g (firstRounding (t .rows) (t .columns) (t .denominator) g)
         × (new ≡ written (firstRounding (t .rows) (t .columns) (t .denominator) g) old)
         → IsFirst r c d g (firstRounding r c d g) × (new ≡ written (firstRounding r c d g) old)
-    done old new f = rw (told .1) at f
+    done old new f = rw (told .sizes) at f
 
-pub never : (x : Refusal) {A : Type 0} → Refused x ≡ Done → A
-never x e = let o : _≡_ {A = ℕ} 0 1 = cc in absurd (omega arith)
+-- a call that is refused promises nothing else
+pub refused-first : {o : Option Refusal} {x : Refusal} {new old : List ℕ} {A : Type 0} → o ≡ some x → Answers o new old (Refused x) old × (o ≡ none → A)
+refused-first h = (refused-so h, λ n. absurd (let z : _≡_ {A = ℕ} 0 1 = cc in omega arith))

@@ -6,32 +6,26 @@ use native.Mathlib.Nat.{add-mul, one-mul, mul-le-mul-right}
 use native.Mathlib.Omega.{arith}
 use lib.Arith.{digits-div, digits-mod}
 use lib.ListN.{length, getD, set}
-use Rattle.table.specs.Fill.{Filled}
-use Rattle.table.proofs.Filling.{filled-none, filled-more, filled-to, filled-join}
-use Rattle.rounding.specs.Lines.{cellIn, RowReady, Ready}
+use Rattle.base.specs.Fill.{Filled}
+use Rattle.base.proofs.Filling.{filled-none, filled-more, filled-join}
+use Rattle.rounding.specs.Lines.{gridCell, RowReady, Ready}
 
 -- a row of which j cells are written
-pub record RowTo (n : List ℕ) (first at : ℕ) (old new : List ℕ) (j : ℕ) : Type 0 where
-  pub filled : Filled (λ k. getD n (first + k) 0) at old new j
+abbrev pub RowTo : List ℕ → ℕ → ℕ → List ℕ → List ℕ → ℕ → Type 0
+RowTo n first at old new j = Filled (λ k. getD n (first + k) 0) at old new j
 
-pub row-none : (n : List ℕ) (first at : ℕ) (old : List ℕ) → RowTo n first at old old 0
-row-none n first at old = record { filled = filled-none _ at old }
+module _ {n : List ℕ} {first columns room at j : ℕ} (r : RowReady n first columns room at) (h : j < columns) where
+  pub row-small : getD n (first + j) 0 ≤ 65535
+  row-small = r .small j h
 
-pub row-small : {n : List ℕ} {first columns room at j : ℕ} → RowReady n first columns room at → j < columns → getD n (first + j) 0 ≤ 65535
-row-small {n} {first} {columns} {room} {at} {j} r h = r .small j h
-
-module _ {n : List ℕ} {first at : ℕ} {old new : List ℕ} {j : ℕ} (p : RowTo n first at old new j) where
-  module _ {columns : ℕ} (r : RowReady n first columns (length old) at) (h : j < columns) where
-    pub row-more : (x : ℕ) → x ≡ getD n (first + j) 0 → RowTo n first at old (set new (at + j) x) (j + 1)
-    row-more x e = record { filled = filled-more (p .filled) x e (omega (arith, r .fits)) }
-
-  pub row-all : {columns : ℕ} → j ≤ columns → columns ≤ j → Filled (λ k. getD n (first + k) 0) at old new columns
-  row-all a b = filled-to (p .filled) a b
+pub row-more : {n : List ℕ} {first columns at j : ℕ} {old new : List ℕ} {x : ℕ} → RowReady n first columns (length old) at → j < columns → RowTo n first at old new j
+    → x ≡ getD n (first + j) 0 → RowTo n first at old (set new (at + j) x) (j + 1)
+row-more r h p e = filled-more p _ e (omega (arith, r .fits))
 
 -- the first i rows
 pub record RowsTo (n : List ℕ) (columns at : ℕ) (old new : List ℕ) (next i : ℕ) : Type 0 where
   pub place : next ≡ at + i * columns
-  pub filled : Filled (cellIn n columns) at old new (i * columns)
+  pub filled : Filled (gridCell n columns) at old new (i * columns)
 
 pub rows-none : (n : List ℕ) (columns at : ℕ) (old : List ℕ) → RowsTo n columns at old old at 0
 rows-none n columns at old = record { place = omega arith; filled = let z : 0 * columns ≡ 0 = omega arith in rw z (filled-none _ at old) }
@@ -59,8 +53,8 @@ module _ {n : List ℕ} {columns at : ℕ} {old new : List ℕ} {next i : ℕ} (
           filled = rw one (filled-join (p .filled) (rw (p .place) at f) same);
         }
       where
-        same : (k : ℕ) → k < columns → getD n (i * 13 + k) 0 ≡ cellIn n columns (i * columns + k)
+        same : (k : ℕ) → k < columns → getD n (i * 13 + k) 0 ≡ gridCell n columns (i * columns + k)
         same k l = sym (ap₂ (λ (a b : ℕ). getD n (a * 13 + b) 0) (digits-div i l) (digits-mod i l))
 
-  pub rows-all : {rows : ℕ} → i ≤ rows → rows ≤ i → Filled (cellIn n columns) at old new (rows * columns)
+  pub rows-all : {rows : ℕ} → i ≤ rows → rows ≤ i → Filled (gridCell n columns) at old new (rows * columns)
   rows-all {rows} a b = let e : i ≡ rows = omega arith in rw e at (p .filled)

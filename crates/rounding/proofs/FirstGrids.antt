@@ -1,26 +1,28 @@
 -- The first matrix of bits gives the first controlled rounding. Assumes nothing.
 use mathlib.Core.Path.{_≡_, sym, ap, _∙_}
-use mathlib.Core.Logic.{inl, inr}
 use mathlib.Core.Bool.{true}
-use mathlib.Core.List.{List, [], _∷_}
-use Prim.Native.Nat.{ℕ, zero, suc, _+_, _-_, _*_, _/_, _%_, _≤_, _<_, suc-le-suc}
+use mathlib.Core.List.{List}
+use Prim.Native.Nat.{ℕ, _+_, _-_, _*_, _/_, _%_, _≤_, _<_}
 use native.Mathlib.Decide.{decLt}
-use native.Mathlib.Nat.{div-add-mod', mod-lt, div-lt-iff-lt-mul, div-le-self, zero-mod, one-mul}
+use native.Mathlib.Nat.{div-le-self, zero-mod, one-mul}
 use native.Mathlib.Omega.{arith}
 use lib.Arith.{digits-lt, digits-div, digits-mod}
-use lib.ListN.{length, getD}
-use Rattle.table.specs.Lists.{tabulate}
-use Rattle.table.specs.Table.{gridAt}
+use lib.ListN.{getD}
+use Rattle.base.specs.Lists.{tabulate}
+use Rattle.grid.specs.Grid.{gridAt}
 use Rattle.table.specs.Whole.{down, gap}
 use Rattle.table.specs.Shape.{Shape}
-use Rattle.table.proofs.Lists.{length-tabulate, getD-tabulate}
-use Rattle.table.proofs.Sums.{sum-ext}
-use Rattle.table.proofs.GridSums.{cell-at, below-rows, past-columns, row-total, column-total, grand-by-rows, grand-by-columns}
+use Rattle.base.proofs.Lists.{length-tabulate, getD-tabulate}
+use Rattle.base.proofs.Sums.{sum-ext}
+use Rattle.grid.proofs.GridSums.{cell-at, below-rows, past-columns, row-total, column-total, grand-by-rows, grand-by-columns}
+use Rattle.order.specs.Order.{nthRow, nthColumn, rank}
+use Rattle.order.proofs.Ranks.{nth-row, nth-column, nth-rank, rank-below, rank-row, rank-column, rank-less}
+use Rattle.table.proofs.Sizes.{shape-of}
 use Rattle.table.proofs.Roundings.{gap-whole, rounds, rounds-low, rounds-high}
-use Rattle.margins.specs.Matrix.{at, Matrix, Solvable, FirstMatrix}
-use Rattle.rounding.specs.Order.{Before}
+use Rattle.margins.specs.Matrix.{at, Matrix, Solvable, nthCell, FirstMatrix}
 use Rattle.rounding.specs.Rounding.{isRounding, IsFirst}
-use Rattle.rounding.proofs.Roundings.{shape-of, rounding-length, rounding-grid, grid-rounding}
+use Rattle.rounding.proofs.Orders.{DiffersAt, before-at}
+use Rattle.rounding.proofs.Roundings.{rounding-length, rounding-grid, grid-rounding}
 use Rattle.rounding.proofs.PlaceKinds.{kind-cell}
 use Rattle.rounding.proofs.Matrices.{Grid, turned, row-cases, LineSums, LineNeeds, Between, share, share-le, share-turned, share-row, bits, bits-le, bits-turned, bits-row, counts, counts-between, counts-turned, counts-sums, sums-agree}
 
@@ -40,25 +42,6 @@ module _ {r c : ℕ} {g : List ℕ} (s : Shape r c g) where
       go (yes x) (yes y) = absurd (n x y)
       go (yes x) (no y) = past-columns s p q x (omega arith) hq
       go (no x) y = below-rows s p q (omega arith) hp
-
--- a place where one array comes before another: the counts before it are the same, and there its count is smaller
-pub record Differs (k n : List ℕ) : Type 0 where
-  pub place : ℕ
-  pub inside : place < length n
-  pub same : (i : ℕ) → i < place → getD k i 0 ≡ getD n i 0
-  pub less : getD k place 0 < getD n place 0
-
-before-at : (k n : List ℕ) → Before k n → Differs k n
-before-at [] n b = absurd b
-before-at (x ∷ k) [] b = absurd b
-before-at (x ∷ k) (y ∷ n) (inl l) = record { place = 0; inside = omega arith; same = λ i h. absurd (omega arith); less = l }
-before-at (x ∷ k) (y ∷ n) (inr e) =
-    let d = before-at k n (e .1) in
-    record { place = suc (d .place); inside = suc-le-suc (d .inside); same = shifted (d .place) (d .same); less = d .less }
-  where
-    shifted : (j : ℕ) → ((i : ℕ) → i < j → getD k i 0 ≡ getD n i 0) → (i : ℕ) → i < suc j → getD (x ∷ k) i 0 ≡ getD (y ∷ n) i 0
-    shifted j f zero h = e .0
-    shifted j f (suc i) h = f i (omega arith)
 
 module _ {r c : ℕ} {g : List ℕ} (s : Shape r c g) (w : ℕ) (wp : 0 < w) (cap rows cols : List ℕ)
     (caps : (p q : ℕ) → p < 13 → q < 13 → at cap p q ≡ gap w (gridAt r c g p q))
@@ -178,62 +161,46 @@ module _ {r c : ℕ} {g : List ℕ} (s : Shape r c g) (w : ℕ) (wp : 0 < w) (ca
       unfolding m counts
       m-count p q hp hq = kind-cell p q _ _ hp hq
 
-      module _ (d : Differs k n) where
-        j-inside : d .place < r * c
-        j-inside = omega (arith, d .inside, n-shape .cells)
+      module _ (d : DiffersAt r c k n) where
+        abbrev row : ℕ
+        row = d .row
 
-        row : ℕ
-        row = d .place / c
+        abbrev column : ℕ
+        column = d .column
 
-        column : ℕ
-        column = d .place % c
+        row-below : row < 12
+        row-below = omega (arith, d .row-inside, s .rows)
 
-        row-inside : row < r
-        unfolding row
-        row-inside = div-lt-iff-lt-mul (s .some-columns) .1 j-inside
+        column-below : column < 12
+        column-below = omega (arith, d .column-inside, s .columns)
 
-        column-inside : column < c
-        unfolding column
-        column-inside = mod-lt (d .place) (s .some-columns)
-
-        place-is : row * c + column ≡ d .place
-        unfolding row column
-        place-is = div-add-mod' (d .place) c
-
-        -- cells before the place, in the grid's order, are before it in the list's
-        earlier : (p q : ℕ) → q < c → p * 12 + q < row * 12 + column → p * c + q < d .place
-        earlier p q hq l = go (decLt p row)
-          where
-            go : Dec (p < row) → p * c + q < d .place
-            go (yes x) = omega (arith, digits-lt x hq, place-is)
-            go (no x) = let z : p ≡ row = omega (arith, s .columns, column-inside) in let y : p * c ≡ row * c = ap (λ (i : ℕ). i * c) z in omega (arith, place-is)
-
-        counts-same : (p q : ℕ) → p < 12 → q < 12 → p * 12 + q < row * 12 + column → gridAt r c k p q ≡ m p q
+        -- the cells before this one, in the grid's order, are the same
+        counts-same : (p q : ℕ) → p < 12 → q < 12 → rank 12 12 p q < rank 12 12 row column → gridAt r c k p q ≡ m p q
         counts-same p q hp hq l = go (decLt p r) (decLt q c)
           where
             go : Dec (p < r) → Dec (q < c) → gridAt r c k p q ≡ m p q
-            go (yes x) (yes y) = cell-at k-shape p q x y ∙ d .same (p * c + q) (earlier p q y l) ∙ n-at p q x y
+            go (yes x) (yes y) =
+                cell-at k-shape p q x y
+                ∙ d .same p q x y (rank-less x y (s .rows) (s .columns) (d .row-inside) (d .column-inside) l)
+                ∙ n-at p q x y
             go (yes x) (no y) = outside k-shape p q hp hq (λ _ z. y z) ∙ sym (m-outside p q hp hq (λ _ z. y z))
             go (no x) y = outside k-shape p q hp hq (λ z _. x z) ∙ sym (m-outside p q hp hq (λ z _. x z))
 
-        bits-same : (i : ℕ) → i < row * 12 + column → k-bits (i / 12) (i % 12) ≡ at b (i / 12) (i % 12)
+        bits-same : (i : ℕ) → i < rank 12 12 row column → nthCell k-bits i ≡ nthCell (at b) i
         bits-same i l =
-            let hp : i / 12 < 12 = omega (arith, row-inside, column-inside, s .rows, s .columns) in
-            let hq : i % 12 < 12 = omega arith in
-            let e₁ = counts-same (i / 12) (i % 12) hp hq (omega arith) in
-            omega (arith, e₁, k-bit (i / 12) (i % 12) hp hq, m-count (i / 12) (i % 12) hp hq)
+            let h : i < 144 = omega (arith, rank-below row-below column-below) in
+            let hp : nthRow 12 12 i < 12 = nth-row (omega arith) (omega arith) i h in
+            let hq : nthColumn 12 12 i < 12 = nth-column (omega arith) (omega arith) i h in
+            let is : rank 12 12 (nthRow 12 12 i) (nthColumn 12 12 i) ≡ i = nth-rank (omega arith) (omega arith) i h in
+            omega (arith, counts-same _ _ hp hq (omega arith), k-bit _ _ hp hq, m-count _ _ hp hq)
 
         contradiction : ⊥
         contradiction =
-            let hr : row < 12 = omega (arith, row-inside, s .rows) in
-            let hc : column < 12 = omega (arith, column-inside, s .columns) in
-            let least = f .first k-bits k-matrix (row * 12 + column) (omega arith) bits-same in
-            let x : (row * 12 + column) / 12 ≡ row = digits-div row hc in
-            let y : (row * 12 + column) % 12 ≡ column = digits-mod row hc in
-            let z : at b row column ≤ k-bits row column = rw (x, y) at least in
-            let kc : gridAt r c k row column ≡ getD k (d .place) 0 = cell-at k-shape row column row-inside column-inside ∙ ap (λ (i : ℕ). getD k i 0) place-is in
-            let nc : m row column ≡ getD n (d .place) 0 = sym (n-at row column row-inside column-inside) ∙ ap (λ (i : ℕ). getD n i 0) place-is in
-            omega (arith, d .less, k-bit row column hr hc, m-count row column hr hc, k-between .low row column (omega arith) (omega arith))
+            let least = f .first k-bits k-matrix (rank 12 12 row column) (rank-below row-below column-below) bits-same in
+            let z : at b row column ≤ k-bits row column = rw (rank-row row-below column-below, rank-column row-below column-below) at least in
+            let kc : gridAt r c k row column ≡ getD k (row * c + column) 0 = cell-at k-shape row column (d .row-inside) (d .column-inside) in
+            let nc : getD n (row * c + column) 0 ≡ m row column = n-at row column (d .row-inside) (d .column-inside) in
+            omega (arith, d .less, k-bit row column row-below column-below, m-count row column row-below column-below, k-between .low row column (omega arith) (omega arith))
 
     pub first : IsFirst r c w g n
-    first = record { rounding = n-rounding; first = λ k h bf. contradiction k h (before-at k n bf) }
+    first = record { rounding = n-rounding; first = λ k h bf. contradiction k h (before-at s k n bf) }

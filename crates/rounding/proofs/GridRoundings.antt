@@ -5,27 +5,28 @@ use Prim.Native.Nat.{ℕ, _+_, _*_, _/_, _%_, _<_}
 use native.Mathlib.Nat.{one-mul}
 use native.Mathlib.Omega.{arith}
 use lib.ListN.{getD}
-use lib.Seq.{ext-getD}
-use Rattle.table.specs.Table.{gridAt, gridOf}
-use Rattle.table.specs.Whole.{down, gap}
+use Rattle.base.specs.Lists.{tabulate}
+use Rattle.base.proofs.Tabulated.{tabulate-getD}
+use Rattle.grid.specs.Grid.{gridAt, gridOf}
+use Rattle.table.specs.Whole.{down, up, gap}
 use Rattle.table.specs.Shape.{Shape}
-use Rattle.table.proofs.Totals.{grid-at, length-grid}
+use Rattle.grid.proofs.GridPlaces.{grid-at, length-grid}
 use Rattle.margins.specs.Matrix.{at, Caps, Solvable, FirstMatrix}
 use Rattle.rounding.specs.Rounding.{IsFirst, firstRounding}
-use Rattle.rounding.specs.Lines.{Parts, LinesFit, Needs, BitsFit, Counted, IsGrid, RoundedGrid}
+use Rattle.rounding.specs.Lines.{Parts, LinesFit, Needs, BitsFit, countAt, IsGrid, RoundedGrid}
 use Rattle.rounding.proofs.Roundings.{first-is}
 use Rattle.rounding.proofs.Matrices.{LineNeeds, turned, counts}
 use Rattle.rounding.proofs.FirstGrids.{grid-rows, grid-columns, solvable, m, n, n-grid, first}
-use Rattle.rounding.proofs.GridLines.{whole-at, gap-at, whole-small, caps, laid-rows, laid-columns, lines-fit, line-needs}
+use Rattle.rounding.proofs.GridLines.{down-at, up-at, gap-at, down-small, caps, laid-rows, laid-columns, lines-fit, line-needs}
 
-module _ {e : List ℕ} (i : IsGrid e) {w : ℕ} (wp : 0 < w) {f cap : List ℕ} (t : Parts w e f cap) where
-  pub rows-fit : LinesFit f cap 13 1
+module _ {e : List ℕ} (i : IsGrid e) {w : ℕ} (wp : 0 < w) {low high cap : List ℕ} (t : Parts w e low high cap) where
+  pub rows-fit : LinesFit low high 13 1
   rows-fit = lines-fit wp (laid-rows (i .shape) (i .is) t (i .small)) (grid-rows (i .shape))
 
-  pub columns-fit : LinesFit f cap 1 13
+  pub columns-fit : LinesFit low high 1 13
   columns-fit = lines-fit wp (laid-columns (i .shape) (i .is) t (i .small)) (grid-columns (i .shape))
 
-  module _ {rows cols : List ℕ} (nr : Needs f cap 13 1 rows) (nc : Needs f cap 1 13 cols) where
+  module _ {rows cols : List ℕ} (nr : Needs low high 13 1 rows) (nc : Needs low high 1 13 cols) where
     -- what the search for bits asks
     pub ready : Caps cap × Solvable cap rows cols
     ready = (
@@ -36,18 +37,21 @@ module _ {e : List ℕ} (i : IsGrid e) {w : ℕ} (wp : 0 < w) {f cap : List ℕ}
     )
 
     module _ {b : List ℕ} (fm : FirstMatrix cap rows cols b) where
-      pub bits-fit : BitsFit f cap b
+      pub bits-fit : BitsFit low high b
       bits-fit = record {
-        small = whole-small (i .shape) (i .is) t (i .small);
+        small = down-small (i .shape) (i .is) t (i .small);
         bits = λ k h.
             let q : k % 13 < 13 = omega arith in
             let p : k / 13 < 13 = omega arith in
             let place : k / 13 * 13 + k % 13 ≡ k = omega arith in
-            rw (place, one-mul) at (fm .matrix .le (k / 13) (k % 13) p q);
+            let le = rw (gap-at (i .shape) (i .is) t (i .small) (k / 13) (k % 13) p q, one-mul) at (fm .matrix .le (k / 13) (k % 13) p q) in
+            let most = rw place at (up-at (i .shape) (i .is) t (i .small) (k / 13) (k % 13) p q) in
+            let bit = rw place at le in
+            omega arith;
       }
 
       -- what comes out, for the table that has these entries
-      module _ {out : List ℕ} (o : Counted f cap b out) (r c : ℕ) (g : List ℕ) (s : Shape r c g) (is : e ≡ gridOf r c g) where
+      module _ {out : List ℕ} (o : out ≡ tabulate 169 (countAt low high b)) (r c : ℕ) (g : List ℕ) (s : Shape r c g) (is : e ≡ gridOf r c g) where
         gaps : (p q : ℕ) → p < 13 → q < 13 → at cap p q ≡ gap w (gridAt r c g p q)
         gaps = gap-at s is t (i .small)
 
@@ -70,19 +74,19 @@ module _ {e : List ℕ} (i : IsGrid e) {w : ℕ} (wp : 0 < w) {f cap : List ℕ}
         pub found-first : IsFirst r c w g (firstRounding r c w g)
         found-first = rw is-array array-first
 
-        same : (k : ℕ) → k < 169 → getD out k 0 ≡ getD (gridOf r c array) k 0
+        same : (k : ℕ) → k < 169 → countAt low high b k ≡ getD (gridOf r c array) k 0
         unfolding array m counts
         same k h =
             let p : k / 13 < 13 = omega arith in
             let q : k % 13 < 13 = omega arith in
             let place : k / 13 * 13 + k % 13 ≡ k = omega arith in
-            let wh : getD f k 0 ≡ down w (gridAt r c g (k / 13) (k % 13)) = rw place at (whole-at s is t (i .small) (k / 13) (k % 13) p q) in
-            let ga : getD cap k 0 ≡ gap w (gridAt r c g (k / 13) (k % 13)) = rw place at (gaps (k / 13) (k % 13) p q) in
+            let lo : getD low k 0 ≡ down w (gridAt r c g (k / 13) (k % 13)) = rw place at (down-at s is t (i .small) (k / 13) (k % 13) p q) in
+            let hi : getD high k 0 ≡ up w (gridAt r c g (k / 13) (k % 13)) = rw place at (up-at s is t (i .small) (k / 13) (k % 13) p q) in
             let there = grid-at r c array (k / 13) (k % 13) p q ∙ n-grid s w wp cap rows cols gaps needs-rows needs-columns b fm (k / 13) (k % 13) p q in
-            o .is k h ∙ rw (wh, ga) (sym (rw place at there))
+            rw (lo, hi) (sym (rw place at there))
 
         pub rounded : out ≡ gridOf r c (firstRounding r c w g)
-        rounded = rw is-array (ext-getD 0 out (gridOf r c array) (o .len ∙ sym (length-grid r c array)) (λ k h. same k (omega (arith, o .len, h))))
+        rounded = rw is-array (o ∙ tabulate-getD (gridOf r c array) 169 0 (countAt low high b) (length-grid r c array) same)
 
-      pub rounded-grid : {out : List ℕ} → Counted f cap b out → RoundedGrid w e out
+      pub rounded-grid : {out : List ℕ} → out ≡ tabulate 169 (countAt low high b) → RoundedGrid w e out
       rounded-grid o = record { first = found-first o; is = rounded o }

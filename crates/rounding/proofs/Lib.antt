@@ -1,4 +1,5 @@
 pub mod Firsts
+pub mod Orders
 pub mod Roundings
 pub mod Lines
 pub mod PlaceKinds

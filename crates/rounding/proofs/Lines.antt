@@ -3,9 +3,9 @@ use mathlib.Core.Path.{_≡_, sym, ap, _∙_}
 use Prim.Native.Nat.{ℕ, _+_, _-_, _*_, _%_, _≤_, _<_}
 use native.Mathlib.Nat.{div-add-mod, mod-lt, mul-add, mul-one, le-of-mul-le-mul-left, lt-of-mul-lt-mul-left}
 use native.Mathlib.Omega.{arith}
-use Rattle.table.specs.Lists.{sumTo}
+use Rattle.base.specs.Lists.{sumTo}
 use Rattle.table.specs.Whole.{down, gap}
-use Rattle.table.proofs.Sums.{sum-ext, sum-le, sum-add, sum-sub, sum-mul, sum-ones}
+use Rattle.base.proofs.Sums.{sum-ext, sum-le, sum-add, sum-sub, sum-mul, sum-ones}
 use Rattle.table.proofs.Roundings.{gap-le, rest-le}
 
 le-of-lt-add-one : {x y : ℕ} → x < y + 1 → x ≤ y

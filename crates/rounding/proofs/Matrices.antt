@@ -3,9 +3,9 @@ use mathlib.Core.Path.{_≡_, refl, sym, _∙_}
 use Prim.Native.Nat.{ℕ, _+_, _-_, _*_, _%_, _≤_, _<_}
 use native.Mathlib.Decide.{decLt}
 use native.Mathlib.Omega.{arith}
-use Rattle.table.specs.Lists.{sumTo}
+use Rattle.base.specs.Lists.{sumTo}
 use Rattle.table.specs.Whole.{down, gap}
-use Rattle.table.proofs.Sums.{sum-ext, sum-add}
+use Rattle.base.proofs.Sums.{sum-ext, sum-add}
 use Rattle.table.proofs.Roundings.{rest-le}
 use Rattle.rounding.specs.Lines.{kind}
 use Rattle.rounding.proofs.Lines.{slack, slack-le, cells-need, totals-need, cells-bits, totals-bits, cells-counts, totals-counts}

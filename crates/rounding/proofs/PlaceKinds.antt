@@ -5,8 +5,8 @@ use Prim.Native.Nat.{ℕ, _+_, _<_}
 use native.Mathlib.Omega.{arith}
 use lib.Dec.{eqb}
 use borrow.Author.Tests.{eq-eqb, ne-eqb}
-use Rattle.table.specs.Lists.{sumTo}
-use Rattle.table.proofs.Sums.{sum-ext}
+use Rattle.base.specs.Lists.{sumTo}
+use Rattle.base.proofs.Sums.{sum-ext}
 use Rattle.rounding.specs.Lines.{kind}
 
 module _ (p q a b : ℕ) where

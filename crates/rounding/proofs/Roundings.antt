@@ -3,27 +3,30 @@ use mathlib.Core.Path.{_≡_, sym, ap, _∙_}
 use mathlib.Core.Logic.{_⊎_, inl, inr}
 use mathlib.Core.Bool.{true}
 use mathlib.Core.List.{List, [], _∷_, map}
-use Prim.Native.Nat.{ℕ, suc, _+_, _*_, _/_, _%_, _<_, suc-le-suc}
-use native.Mathlib.Nat.{div-add-mod', mod-lt, div-lt-iff-lt-mul, div-le-self}
+use mathlib.Core.Option.{Option}
+use Prim.Native.Nat.{ℕ, suc, _+_, _*_, _<_, suc-le-suc}
+use native.Mathlib.Nat.{div-le-self}
 use native.Mathlib.Decide.{ℕ-discrete}
 use native.Mathlib.Omega.{arith}
-use lib.ListN.{length, getD}
+use lib.ListN.{length, getD, length-map}
 use lib.Dec.{eqb}
 use borrow.Author.Tests.{eq-eqb, eqb-true}
-use Rattle.table.specs.Table.{total, gridAt}
+use Rattle.table.specs.Table.{total}
+use Rattle.grid.specs.Grid.{gridAt}
 use Rattle.table.specs.Whole.{down, up, roundsTo}
 use Rattle.table.specs.Shape.{Shape}
-use Rattle.table.proofs.Lists.{and-left, and-right, and-both}
+use Rattle.base.proofs.Lists.{and-left, and-right, and-both}
+use Rattle.order.specs.Order.{nthRow, nthColumn}
+use Rattle.order.proofs.Ranks.{nth-row, nth-column}
+use Rattle.table.proofs.Sizes.{shape-of}
 use Rattle.table.proofs.Totals.{total-none}
-use Rattle.table.proofs.GridSums.{cell-at}
-use Rattle.table.proofs.EntryTests.{entries-grid, grid-entries}
+use Rattle.grid.proofs.GridSums.{cell-at}
+use Rattle.grid.proofs.GridTests.{entries-grid, grid-entries}
 use Rattle.table.proofs.Roundings.{gap-le, rounds, rounds-low, rounds-high}
 use Rattle.rounding.specs.Rounding.{isRounding, IsFirst, choice, found, firstRounding}
-use Rattle.rounding.proofs.Firsts.{Within, Ordered, found-first}
-
--- a list of r by c counts has the shape of the cells
-pub shape-of : {r c : ℕ} {g : List ℕ} → Shape r c g → (n : List ℕ) → length n ≡ r * c → Shape r c n
-shape-of s n e = record { some-rows = s .some-rows; rows = s .rows; some-columns = s .some-columns; columns = s .columns; cells = e }
+use Rattle.rounding.specs.Order.{inOrder, arrayOf}
+use Rattle.rounding.proofs.Firsts.{Within, Ordered, within-length, found-first}
+use Rattle.rounding.proofs.Orders.{length-in-order, in-order-at, array-of-order, order-of-array}
 
 module _ {r c : ℕ} {g : List ℕ} (s : Shape r c g) (w : ℕ) (n : List ℕ) where
   pub rounding-length : isRounding r c w g n ≡ true → length n ≡ r * c
@@ -42,13 +45,14 @@ module _ {r c : ℕ} {g : List ℕ} (s : Shape r c g) (w : ℕ) (n : List ℕ) w
   grid-rounding e h = and-both (eq-eqb _ _ e) (grid-entries s (λ x. roundsTo w (total g x) (total n x)) h)
 
   -- a cell's count is the cell over w rounded down or up
-  at-cell : isRounding r c w g n ≡ true → (k : ℕ) → k < r * c → roundsTo w (getD g k 0) (getD n k 0) ≡ true
-  at-cell h k l =
-      let q : k % c < c = mod-lt k (s .some-columns) in
-      let p : k / c < r = div-lt-iff-lt-mul (s .some-columns) .1 l in
-      let at = rounding-grid h (k / c) (k % c) (omega (arith, s .rows)) (omega (arith, s .columns)) in
-      let place : k / c * c + k % c ≡ k = div-add-mod' k c in
-      rw (cell-at s (k / c) (k % c) p q, cell-at (shape-of s n (rounding-length h)) (k / c) (k % c) p q, place) at at
+  at-cell : isRounding r c w g n ≡ true → (p q : ℕ) → p < r → q < c → roundsTo w (getD g (p * c + q) 0) (getD n (p * c + q) 0) ≡ true
+  at-cell h p q hp hq =
+      let at = rounding-grid h p q (omega (arith, s .rows)) (omega (arith, s .columns)) in
+      rw (cell-at s p q hp hq, cell-at (shape-of s n (rounding-length h)) p q hp hq) at at
+
+  in-order : isRounding r c w g n ≡ true → (i : ℕ) → i < r * c → roundsTo w (getD (inOrder r c g) i 0) (getD (inOrder r c n) i 0) ≡ true
+  in-order h i l = rw (in-order-at r c g i l, in-order-at r c n i l)
+      (at-cell h (nthRow r c i) (nthColumn r c i) (nth-row (s .some-rows) (s .some-columns) i l) (nth-column (s .some-rows) (s .some-columns) i l))
 
 within-at : (w : ℕ) (g n : List ℕ) → length n ≡ length g → ((k : ℕ) → k < length g → roundsTo w (getD g k 0) (getD n k 0) ≡ true) → Within (map (choice w) g) n
 within-at w [] [] e h = tt
@@ -69,10 +73,22 @@ ordered w (x ∷ g) = (omega arith, ordered w g)
 
 -- the search gives the array that is first of all controlled roundings
 module _ {r c : ℕ} {g : List ℕ} (s : Shape r c g) (w : ℕ) where
-  made-of : (n : List ℕ) → isRounding r c w g n ≡ true → Within (map (choice w) g) n
-  made-of n h = within-at w g n (rounding-length s w n h ∙ sym (s .cells)) (λ k l. at-cell s w n h k (omega (arith, s .cells)))
+  made-of : (n : List ℕ) → isRounding r c w g n ≡ true → Within (map (choice w) (inOrder r c g)) (inOrder r c n)
+  made-of n h = within-at w (inOrder r c g) (inOrder r c n) (length-in-order r c n ∙ sym (length-in-order r c g))
+      (λ i l. in-order s w n h i (omega (arith, length-in-order r c g)))
+
+  made-length : (l : List ℕ) → Within (map (choice w) (inOrder r c g)) l → length l ≡ r * c
+  made-length l h = within-length (map (choice w) (inOrder r c g)) l h ∙ length-map (inOrder r c g) (choice w) ∙ length-in-order r c g
 
   pub first-is : (n : List ℕ) → IsFirst r c w g n → firstRounding r c w g ≡ n
   unfolding firstRounding
-  first-is n f = ap found (found-first (isRounding r c w g) (map (choice w) g) (ordered w g) n
-      (record { passes = f .rounding; within = made-of n (f .rounding); first = λ k _. f .first k }))
+  first-is n f =
+      let back : arrayOf r c (inOrder r c n) ≡ n = array-of-order s n (rounding-length s w n (f .rounding)) in
+      ap (λ (o : Option (List ℕ)). arrayOf r c (found o))
+      (found-first (λ l. isRounding r c w g (arrayOf r c l)) (map (choice w) (inOrder r c g)) (ordered w (inOrder r c g)) (inOrder r c n)
+      (record {
+        passes = rw back (f .rounding);
+        within = made-of n (f .rounding);
+        first = λ l m h b. f .first (arrayOf r c l) h (rw (order-of-array s l (made-length l m)) b);
+      }))
+      ∙ back

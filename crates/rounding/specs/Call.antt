@@ -1,14 +1,16 @@
--- The call "rounding" (01, "Turned back": 1, 2, 3, 4, 7). Assumes nothing.
-use mathlib.Core.Bool.{cond}
-use mathlib.Core.List.{List}
+-- The call "rounding" (01, "Turned back"). Assumes nothing.
+use mathlib.Core.List.{List, [], _∷_, _++_}
+use mathlib.Core.Option.{Option}
 use Prim.Native.Nat.{ℕ, _*_}
-use lib.Dec.{leb}
-use Rattle.table.specs.Check.{checkOf}
-use Rattle.table.specs.Answer.{ifAccepted}
-use Rattle.table.specs.declared.Answer.{Answer}
-use Rattle.table.specs.declared.Answer.the-variants.{Done, Refused}
-use Rattle.table.specs.declared.Refusal.the-variants.{Buffer}
+use lib.Dec.{ltb}
+use Rattle.refusals.specs.declared.Refusal.{Refusal}
+use Rattle.refusals.specs.declared.Refusal.the-variants.{Buffer}
+use Rattle.refusals.specs.Due.{Test, refuse, due}
+use Rattle.table.specs.Check.{tableTests}
 
--- the answer for a buffer of `room` counts: 1 to 4, then 7, "a lent buffer shorter than its result"
-unfoldable pub roundAnswer : ℕ → ℕ → ℕ → List ℕ → ℕ → Answer
-roundAnswer r c d g room = ifAccepted (checkOf r c d g) (cond (leb (r * c) room) Done (Refused Buffer))
+-- the refusals of the call, with a buffer of `room` counts: those of the table, 1 to 4; 7, the buffer is shorter than the array
+abbrev pub roundTests : ℕ → ℕ → ℕ → List ℕ → ℕ → List Test
+roundTests r c d g room = tableTests r c d g ++ (refuse Buffer (ltb room (r * c)) ∷ [])
+
+unfoldable pub roundRefusal : ℕ → ℕ → ℕ → List ℕ → ℕ → Option Refusal
+roundRefusal r c d g room = due (roundTests r c d g room)

@@ -6,10 +6,10 @@ use mathlib.Core.Option.{Option, some, none}
 use Prim.Native.Nat.{ℕ, _*_}
 use lib.ListN.{length}
 use lib.Dec.{eqb}
-use Rattle.table.specs.Lists.{all}
+use Rattle.base.specs.Lists.{all}
 use Rattle.table.specs.Table.{total, entryPlaces}
 use Rattle.table.specs.Whole.{down, up, roundsTo}
-use Rattle.rounding.specs.Order.{Before, Choice, firstOf}
+use Rattle.rounding.specs.Order.{inOrder, arrayOf, Before, Choice, firstOf}
 
 -- "A controlled rounding is an array of counts n, one a cell [..], with totals formed from it. Each of its entries, totals included,
 -- is the entry of the table divided by D, rounded down or up; a whole entry stays." The denominator is w; a count of an accepted table is at most 1,001.
@@ -19,16 +19,16 @@ isRounding r c w g n = eqb (length n) (r * c) && all (λ s. roundsTo w (total g 
 -- "the first array of this order is always taken"
 pub record IsFirst (r c w : ℕ) (g n : List ℕ) : Type 0 where
   pub rounding : isRounding r c w g n ≡ true
-  pub first : (k : List ℕ) → isRounding r c w g k ≡ true → Before k n → ⊥
+  pub first : (k : List ℕ) → isRounding r c w g k ≡ true → Before r c k n → ⊥
 
--- the same array, searched for: a cell's count is the cell over w rounded down, or up unless it is whole
+-- the same array, searched for in the order in which cells are compared: a cell's count is the cell over w rounded down, or up unless it is whole
 abbrev pub choice : ℕ → ℕ → Choice
 choice w e = record { low = down w e; high = up w e }
 
--- the array that the search found; for an accepted table it finds one
+-- the counts that the search found; for an accepted table it finds some
 abbrev pub found : Option (List ℕ) → List ℕ
 found (some n) = n
 found none = []
 
 unfoldable pub firstRounding : ℕ → ℕ → ℕ → List ℕ → List ℕ
-firstRounding r c w g = found (firstOf (isRounding r c w g) (map (choice w) g))
+firstRounding r c w g = arrayOf r c (found (firstOf (λ l. isRounding r c w g (arrayOf r c l)) (map (choice w) (inOrder r c g))))

@@ -1,21 +1,23 @@
 // Controlled roundings: the first of a table, in the stated order.
 ghost use mathlib.Core.Path.{_≡_};
+ghost use mathlib.Core.Option.{none};
 ghost use Prim.Native.Nat.{_*_, _≤_};
 ghost use lib.ListN.{length};
 ghost use Rattle.table.specs.Shape.{IsTable};
-ghost use Rattle.table.specs.Answer.{after, written};
+ghost use Rattle.refusals.specs.Due.{Answers};
+ghost use Rattle.base.specs.Buffers.{written};
 ghost use Rattle.rounding.specs.Rounding.{IsFirst, firstRounding};
-ghost use Rattle.rounding.specs.Call.{roundAnswer};
-use crate::grid::round_grid;
+ghost use Rattle.rounding.specs.Call.{roundRefusal};
+use crate::first::round_grid;
 use crate::write::write_cells;
-use table::Answer;
+use grid::entries;
+use refusals::Answer;
+use refusals::Refusal;
 use table::Checked;
-use table::Refusal;
 use table::Table;
 use table::check::check;
-use table::entries::entries;
 
-pub mod grid;
+pub mod first;
 mod needs;
 mod parts;
 pub mod write;
@@ -36,9 +38,10 @@ fn write_rounding(t: Table, cells: &[u32], counts: &mut [u16])
 
 // Writes the first controlled rounding of a table, or returns the lowest refusal that applies.
 pub fn round(rows: u32, columns: u32, denominator: u32, cells: &[u32], counts: &mut [u16]) -> Answer
-    ensures answer { λ r. ⌜ r ≡ roundAnswer rows columns denominator (now (cells .entry)) (length (now (counts .entry))) ⌝ }
-    ensures buffer { λ r. ⌜ now (counts .exit) ≡ after r (written (firstRounding rows columns denominator (now (cells .entry))) (now (counts .entry))) (now (counts .entry)) ⌝ }
-    ensures exists { λ r. ⌜ (r ≡ Answer.Done → IsFirst rows columns denominator (now (cells .entry)) (firstRounding rows columns denominator (now (cells .entry)))) ⌝ }
+    ensures answers { λ r. ⌜ Answers (roundRefusal rows columns denominator (now (cells .entry)) (length (now (counts .entry))))
+        (written (firstRounding rows columns denominator (now (cells .entry))) (now (counts .entry))) (now (counts .entry)) r (now (counts .exit)) ⌝ }
+    ensures exists { λ _. ⌜ (roundRefusal rows columns denominator (now (cells .entry)) (length (now (counts .entry))) ≡ none
+        → IsFirst rows columns denominator (now (cells .entry)) (firstRounding rows columns denominator (now (cells .entry)))) ⌝ }
 {
     let checked = check(rows, columns, denominator, cells);
     match checked {

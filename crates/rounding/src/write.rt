@@ -1,17 +1,9 @@
 // The cells of a grid, written out as counts.
-ghost use mathlib.Core.Path.{_≡_};
-ghost use Prim.Native.Nat.{_+_, _*_, _≤_};
+ghost use Prim.Native.Nat.{_+_, _*_};
 ghost use lib.ListN.{length, getD};
-ghost use Rattle.table.specs.Fill.{Filled};
-ghost use Rattle.rounding.specs.Lines.{cellIn, RowReady, Ready};
-
-// A count of 16 bits.
-fn narrow(x: u64) -> u16
-    requires { ⌜ x ≤ 65535 ⌝ }
-    ensures { λ r. ⌜ r ≡ x ⌝ }
-{
-    x as u16
-}
+ghost use Rattle.base.specs.Fill.{Filled};
+ghost use Rattle.rounding.specs.Lines.{gridCell, RowReady, Ready};
+use base::convert::u64_to_u16;
 
 // A row of `columns` cells that begins at place `first` of the grid, written from place `at` on.
 fn write_row(n: &[u64; 169], first: usize, columns: usize, counts: &mut [u16], at: usize)
@@ -19,14 +11,14 @@ fn write_row(n: &[u64; 169], first: usize, columns: usize, counts: &mut [u16], a
     ensures { λ _. ⌜ Filled (λ j. getD (now (n .entry)) (first + j) 0) at (now (counts .entry)) (now (counts .exit)) columns ⌝ }
 {
     for j in 0..columns {
-        counts[at + j] = narrow(n[first + j]);
+        counts[at + j] = u64_to_u16(n[first + j]);
     }
 }
 
 // The cells in row order, from place `at` on.
 pub fn write_cells(n: &[u64; 169], rows: usize, columns: usize, counts: &mut [u16], at: usize)
     requires { ⌜ Ready (now n) rows columns (length (now counts)) at ⌝ }
-    ensures { λ _. ⌜ Filled (cellIn (now (n .entry)) columns) at (now (counts .entry)) (now (counts .exit)) (rows * columns) ⌝ }
+    ensures { λ _. ⌜ Filled (gridCell (now (n .entry)) columns) at (now (counts .entry)) (now (counts .exit)) (rows * columns) ⌝ }
 {
     let mut next = at;
     for i in 0..rows {

@@ -1,11 +1,9 @@
-pub mod Lists
-pub mod Sums
-pub mod SumLoops
 pub mod Checks
 pub mod Totals
-pub mod Grids
-pub mod GridSums
 pub mod EntryTests
 pub mod EntryBounds
 pub mod Roundings
-pub mod Filling
+pub mod RoundTests
+pub mod Tables
+pub mod Sizes
+pub mod Divisions

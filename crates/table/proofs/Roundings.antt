@@ -1,14 +1,15 @@
 -- The rounding of one entry, as a bound from below and from above. Assumes nothing.
 use mathlib.Core.Logic.{_≢_}
-use mathlib.Core.Path.{_≡_, refl}
-use mathlib.Core.Bool.{Bool, true, false, cond, not, _&&_, _||_, false≢true}
+use mathlib.Core.Path.{_≡_, refl, sym, _∙_}
+use mathlib.Core.Bool.{Bool, true, false, cond, not, _&&_, _||_, false≢true, and-false}
 use Prim.Native.Nat.{ℕ, _+_, _*_, _%_, _<_, _≤_}
-use native.Mathlib.Decide.{ℕ-discrete}
+use native.Mathlib.Decide.{ℕ-discrete, decLt}
 use native.Mathlib.Nat.{mod-lt, mul-one}
 use native.Mathlib.Omega.{arith}
-use lib.Dec.{eqb}
-use borrow.Author.Tests.{eq-eqb, ne-eqb, eqb-true, eqb-false}
-use Rattle.table.specs.Whole.{down, gap, whole, roundsTo}
+use lib.Dec.{leb, eqb}
+use borrow.Author.Tests.{eq-eqb, ne-eqb, eqb-true, eqb-false, le-leb, lt-leb}
+use Rattle.base.proofs.Lists.{and-both}
+use Rattle.table.specs.Whole.{down, gap, whole, up, roundsTo}
 
 pub gap-whole : (w e : ℕ) → e % w ≡ 0 → gap w e ≡ 0
 unfolding gap whole
@@ -67,3 +68,16 @@ rest-le w e wp = go (ℕ-discrete (e % w) 0)
     go : Dec (e % w ≡ 0) → e % w ≤ w * gap w e
     go (yes z) = omega arith
     go (no z) = rw (gap-part w e z, mul-one) (omega (arith, mod-lt e wp))
+
+-- a count is an entry rounded down or up exactly if it lies between the two
+pub rounds-between : (w e n : ℕ) → roundsTo w e n ≡ (leb (down w e) n && leb n (up w e))
+rounds-between w e n = go (roundsTo w e n) refl
+  where
+    go : (b : Bool) → roundsTo w e n ≡ b → roundsTo w e n ≡ (leb (down w e) n && leb n (up w e))
+    go true h = h ∙ sym (and-both (le-leb _ _ (rounds-low w e n h)) (le-leb _ _ (rounds-high w e n h)))
+    go false h = h ∙ sym (either (decLt n (down w e)) (decLt (up w e) n))
+      where
+        either : Dec (n < down w e) → Dec (up w e < n) → (leb (down w e) n && leb n (up w e)) ≡ false
+        either (yes l) m = simp (lt-leb (down w e) n l)
+        either (no l) (yes m) = simp (lt-leb n (up w e) m, and-false)
+        either (no l) (no m) = absurd (false≢true (sym h ∙ rounds w e n (omega arith) (omega arith)))

@@ -1,7 +1,5 @@
-pub mod Lists
 pub mod Table
 pub mod Whole
 pub mod Check
-pub mod Answer
 pub mod Shape
-pub mod Fill
+pub mod Divide

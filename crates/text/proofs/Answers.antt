@@ -9,7 +9,7 @@ use borrow.Author.Tests.{leb-true}
 use lib.Dec.{leb}
 use lib.ListN.{length, getD, take, drop, length-drop, List·getD-append}
 use lib.Seq.{take-at, drop-append-le}
-use Rattle.table.specs.Lists.{all}
+use Rattle.base.specs.Lists.{all}
 use Rattle.text.specs.Text.{isDigit, isText, isNumber, numbersFrom, parse}
 use Rattle.text.specs.Parsed.{padded}
 

@@ -1,12 +1,14 @@
 -- The examples hold, by computing both sides. Assumes nothing.
 use mathlib.Core.Path.{_≡_, refl}
 use mathlib.Core.List.{map, zipWith}
-use Rattle.table.specs.Lists.{tabulate, sum, least, all}
+use Rattle.base.specs.Lists.{tabulate, sum, least, all}
 use Rattle.table.specs.Table.{total, entryPlaces}
 use Rattle.table.specs.Table as table
 use Rattle.table.specs.Whole.{whole, gap, roundsTo}
-use Rattle.table.specs.Check.{checkOf}
-use Rattle.rounding.specs.Order.{firstOf}
+use Rattle.refusals.specs.Due.{due}
+use Rattle.table.specs.Check.{tableRefusal}
+use Rattle.order.specs.Order.{nthRow, nthColumn, rank}
+use Rattle.rounding.specs.Order.{inOrder, arrayOf, firstOf}
 use Rattle.rounding.specs.Rounding.{isRounding, firstRounding}
 use Rattle.plan.specs.Rounds.{limitOf, weightOf, without, roundsFrom, planOf}
 use Rattle.text.specs.Text.{numbersFrom, parse, digits, decimal, spaced, line, lines, lineNumbers, listing, refused, output}
@@ -21,5 +23,5 @@ unfolding decimal digits
 digits-are = refl
 
 pub printed : map (λ o. output (o .text)) outputs ≡ map (λ o. o .prints) outputs
-unfolding parse numbersFrom all decimal digits spaced line lines lineNumbers listing refused output checkOf planOf roundsFrom weightOf limitOf without tabulate sum least total entryPlaces table.lines whole gap roundsTo firstOf isRounding firstRounding zipWith
+unfolding parse numbersFrom all decimal digits spaced line lines lineNumbers listing refused output tableRefusal due planOf roundsFrom weightOf limitOf without tabulate sum least total entryPlaces table.lines whole gap roundsTo nthRow nthColumn rank inOrder arrayOf firstOf isRounding firstRounding zipWith
 printed = refl

@@ -1,64 +1,63 @@
 -- How long the listing of a laid-out plan is at most. Assumes nothing.
-use mathlib.Core.Path.{_≡_, ap}
+use mathlib.Core.Path.{_≡_, ap, _∙_}
 use mathlib.Core.Bool.{true}
 use mathlib.Core.List.{List, [], _∷_}
 use Prim.Native.Nat.{ℕ, zero, suc, _+_, _*_, _<_, _≤_}
-use native.Mathlib.Nat.{mul-le-mul}
 use native.Mathlib.Omega.{arith}
 use lib.ListN.{length, getD, length-append}
-use Rattle.table.specs.Lists.{tabulate, joinTo}
-use Rattle.stored.specs.Form.{number, rowsOf, columnsOf, denominatorOf, arraysOf, fieldOf, countOf, laidOut, decode}
-use Rattle.stored.specs.Parts.{Laid}
-use Rattle.stored.proofs.Layouts.{laid}
-use Rattle.text.specs.Text.{decimal, spaced, line, listing}
-use Rattle.text.specs.Write.{maxListing, Room, arrayOf, storedLine}
+use Rattle.base.specs.Lists.{joinTo}
+use Rattle.form.specs.Plan.{arrayAt}
+use Rattle.form.specs.Form.{laidOut, decode}
+use Rattle.form.specs.Parts.{Laid}
+use Rattle.form.proofs.Layouts.{laid}
+use Rattle.form.proofs.Readings.{decode-arrays, decode-few, counts-length, counts-small}
+use Rattle.text.specs.Text.{decimal, spaced, line, lineNumbers, listing}
+use Rattle.text.specs.Write.{maxListing, Room, planLine}
 use Rattle.text.proofs.Decimals.{decimal-length, decimal-most}
-use Rattle.text.proofs.Lines.{lineOf, listing-whole}
-
-two-small : (b : List ℕ) → ((k : ℕ) → getD b k 0 < 256) → (at : ℕ) → number 2 b at < 100000
-unfolding number
-two-small b bytes at = omega (arith, bytes at, bytes (at + 1))
+use Rattle.text.proofs.Lines.{array-line, listing-whole}
 
 -- a line of numbers that after the first have at most five digits
-spaced-length : (x n : ℕ) (f : ℕ → ℕ) → ((i : ℕ) → f i < 100000) → length (spaced (x ∷ tabulate n f)) ≤ length (decimal x) + 6 * n
-unfolding spaced tabulate
-spaced-length x zero f h = omega arith
-spaced-length x (suc n) f h =
-    omega
-    (arith, length-append (decimal x) (32 ∷ spaced (f 0 ∷ tabulate n (λ i. f (suc i)))), spaced-length (f 0) n (λ i. f (suc i)) (λ i. h (suc i)), decimal-length 4 (f 0) (h 0))
+spaced-length : (x : ℕ) (l : List ℕ) → ((i : ℕ) → getD l i 0 < 100000) → length (spaced (x ∷ l)) ≤ length (decimal x) + 6 * length l
+unfolding spaced
+spaced-length x [] h = omega arith
+spaced-length x (y ∷ l) h =
+    omega (arith, length-append (decimal x) (32 ∷ spaced (y ∷ l)), spaced-length y l (λ i. h (suc i)), decimal-length 4 y (h 0))
 
 module _ (b : List ℕ) (l : laidOut b ≡ true) where
-  within : Laid (rowsOf b) (columnsOf b) (arraysOf b) (denominatorOf b) b
+  within : Laid b
   within = laid b l
 
+  abbrev lineOf : ℕ → List ℕ
+  lineOf k = line (planLine (decode b) k)
+
   module _ (bytes : (k : ℕ) → getD b k 0 < 256) where
-    head-length : length (lineOf b 0) ≤ 16
-    unfolding storedLine line spaced
+    head-length : length (lineOf 0) ≤ 16
+    unfolding line spaced lineNumbers decode
     head-length = simp length-append
         (omega (
           arith,
-          decimal-length 1 (rowsOf b) (omega (arith, within .rows)),
-          decimal-length 1 (columnsOf b) (omega (arith, within .columns)),
-          decimal-length 4 (denominatorOf b) (omega (arith, within .denominator)),
-          decimal-length 2 (arraysOf b) (omega (arith, within .arrays)),
+          decimal-length 1 (decode b .rows) (omega (arith, within .sizes .rows)),
+          decimal-length 1 (decode b .columns) (omega (arith, within .sizes .columns)),
+          decimal-length 4 (decode b .denominator) (omega (arith, within .denominator)),
+          decimal-length 2 (length (decode b .arrays)) (omega (arith, decode-arrays b, within .sizes .arrays)),
         ))
 
-    array-length : (k : ℕ) → length (lineOf b (suc k)) ≤ 875
-    unfolding storedLine line
-    array-length k =
-        let n = rowsOf b * columnsOf b in
-        let cells : n ≤ 144 = mul-le-mul (within .rows) (within .columns) in
-        let numbers = spaced-length (fieldOf b (suc k)) n (countOf b (suc k)) (λ i. two-small b bytes _) in
-        omega
-        (arith, length-append (spaced (arrayOf b (suc k))) (10 ∷ []), numbers, cells, decimal-most (fieldOf b (suc k)))
+    array-length : (k : ℕ) → k < length (decode b .arrays) → length (lineOf (suc k)) ≤ 875
+    unfolding line
+    array-length k h =
+        let a = arrayAt (decode b .arrays) k in
+        let numbers = spaced-length (a .weight) (a .counts) (λ i. omega (arith, counts-small b bytes k i h)) in
+        let is : length (lineOf (suc k)) ≡ length (spaced (a .weight ∷ a .counts)) + 1 =
+        ap (λ (n : List ℕ). length (line n)) (array-line (decode b) k h) ∙ length-append (spaced (a .weight ∷ a .counts)) (10 ∷ []) in
+        omega (arith, is, numbers, counts-length b k h, decode-few b l, decimal-most (a .weight))
 
-    lines-length : (k : ℕ) → length (joinTo (suc k) (lineOf b)) ≤ 16 + 875 * k
+    lines-length : (k : ℕ) → k ≤ length (decode b .arrays) → length (joinTo (suc k) lineOf) ≤ 16 + 875 * k
     unfolding joinTo
-    lines-length zero = omega (arith, head-length)
-    lines-length (suc k) = omega (arith, lines-length k, length-append (joinTo (suc k) (lineOf b)) (lineOf b (suc k)), array-length k)
+    lines-length zero h = omega (arith, head-length)
+    lines-length (suc k) h = omega (arith, lines-length k (omega arith), length-append (joinTo (suc k) lineOf) (lineOf (suc k)), array-length k h)
 
     pub listing-length : length (listing (decode b)) ≤ maxListing
-    listing-length = omega (arith, ap length (listing-whole b), lines-length (arraysOf b), within .arrays)
+    listing-length = omega (arith, ap length (listing-whole (decode b)), lines-length (length (decode b .arrays)) (omega arith), decode-arrays b, within .sizes .arrays)
 
     pub listing-room : (out : List ℕ) (at : ℕ) → at + maxListing ≤ length out → Room out at (listing (decode b))
     listing-room out at h = record { fits = omega (arith, listing-length) }

@@ -1,34 +1,34 @@
--- Lines of numbers, and those of a stored plan. Assumes nothing.
-use mathlib.Core.Path.{_≡_, refl, sym, ap, ap₂, _∙_}
-use mathlib.Core.List.{List, [], _∷_, _++_, append-assoc, append-nil}
+-- Lines of numbers, and those of a plan's listing. Assumes nothing.
+use mathlib.Core.Path.{_≡_, refl, sym, ap, _∙_}
+use mathlib.Core.Bool.{true}
+use mathlib.Core.List.{List, [], _∷_, _++_, map, append-assoc, append-nil}
 use Prim.Native.Nat.{ℕ, zero, suc, _+_, _-_, _*_, _<_, _≤_}
 use native.Mathlib.Nat.{not-suc-le-zero, le-of-suc-le-suc}
 use native.Mathlib.Numerals.{add-one}
 use native.Mathlib.Omega.{arith}
-use mathlib.Core.Bool.{true}
-use lib.ListN.{length, getD, take, length-append}
+use lib.ListN.{length, getD, set, take, replicate, length-append, length-set, length-map, length-replicate}
+use lib.Seq.{ext-getD, take-length, length-take-le, getD-take, getD-set-same, getD-set-other}
 use mir.Val.{Fits}
 use mir.Syntax.{w32, w64}
-use lib.Seq.{take-length}
-use Rattle.table.specs.Lists.{tabulate, joinTo}
-use Rattle.table.proofs.Lists.{length-tabulate, getD-tabulate, map-tabulate}
-use Rattle.stored.specs.declared.Sizes.{Sizes}
-use Rattle.stored.specs.Form.{rowsOf, columnsOf, denominatorOf, arraysOf, fieldOf, offsetOf, sizesOf, countOf, laidOut, decode}
-use Rattle.stored.specs.Parts.{countAt, Stored}
-use Rattle.stored.proofs.Layouts.{laid}
-use Rattle.stored.proofs.Contents.{stored-by}
+use Rattle.base.specs.Lists.{joinTo}
+use Rattle.base.specs.Buffers.{written}
+use Rattle.base.specs.Fill.{Filled}
+use Rattle.base.proofs.Buffers.{written-front, written-length}
+use Rattle.form.specs.declared.Sizes.{Sizes}
+use Rattle.form.specs.Plan.{Weighted, Plan, arrayAt}
+use Rattle.form.specs.Form.{rowsOf, columnsOf, denominatorOf, arraysOf, sizesOf, laidOut, decode}
+use Rattle.form.specs.Parts.{Laid, HasArray, HasCounts, Sized}
+use Rattle.form.proofs.Layouts.{laid}
+use Rattle.form.proofs.Readings.{decode-arrays, counts-length, contents-room}
+use Rattle.form.proofs.Sizing.{cells-are, sized-few, sized-fits}
 use Rattle.text.specs.Text.{decimal, spaced, line, lines, lineNumbers, listing, refusedWord, refused}
-use Rattle.text.specs.Write.{maxListing, Room, Wrote, gapBefore, headOf, arrayOf, storedLine}
+use Rattle.text.specs.Write.{maxListing, Room, Wrote, gapBefore, planLine, HasLine, LineOf, LineRead}
 use Rattle.text.proofs.Decimals.{decimal-most}
 use Rattle.text.proofs.Writes.{room-first, room-then, wrote-then, Writing, writing-none, writing-all, writing-room, writing-more}
 
 -- a number of a line, with the space before it
 unfoldable pub partOf : List ℕ → ℕ → List ℕ
 partOf l i = gapBefore i ++ decimal (getD l i 0)
-
--- line k of a stored plan
-abbrev pub lineOf : List ℕ → ℕ → List ℕ
-lineOf b k = line (storedLine b k)
 
 join-none : (f : ℕ → List ℕ) → joinTo 0 f ≡ []
 unfolding joinTo
@@ -39,10 +39,10 @@ unfolding joinTo
 join-cons f zero = append-nil (f 0)
 join-cons f (suc n) = sym (append-assoc (f 0) (joinTo n (λ i. f (suc i))) (f (suc n))) ∙ ap (λ l. l ++ f (suc n)) (join-cons f n)
 
-lines-join : (n : ℕ) (f : ℕ → List ℕ) → lines (tabulate n f) ≡ joinTo n (λ k. line (f k))
-unfolding lines tabulate
-lines-join zero f = sym (join-none _)
-lines-join (suc n) f = ap (λ l. line (f 0) ++ l) (lines-join n (λ i. f (suc i))) ∙ join-cons (λ k. line (f k)) n
+lines-join : (l : List (List ℕ)) → lines l ≡ joinTo (length l) (λ k. line (getD l k []))
+unfolding lines
+lines-join [] = sym (join-none _)
+lines-join (x ∷ l) = ap (λ k. line x ++ k) (lines-join l) ∙ join-cons (λ k. line (getD (x ∷ l) k [])) (length l)
 
 spaced-suc : (l : List ℕ) (i : ℕ) → i < length l → spaced (take (suc i) l) ≡ spaced (take i l) ++ partOf l i
 unfolding spaced partOf
@@ -89,126 +89,166 @@ module _ (l : List ℕ) where
     unfolding partOf
     place-more v = writing-more w m (rw e at v)
 
--- the numbers of the lines that a stored plan is printed as
-module _ (b : List ℕ) where
-  stored-lines : lineNumbers (decode b) ≡ tabulate (suc (arraysOf b)) (storedLine b)
-  unfolding lineNumbers decode storedLine tabulate
-  stored-lines = ap₂ _∷_ (ap (λ n. rowsOf b ∷ columnsOf b ∷ denominatorOf b ∷ n ∷ []) (length-tabulate (arraysOf b) _)) (map-tabulate _ (arraysOf b) _)
+-- the lines of a plan's listing
+module _ (p : Plan) where
+  abbrev arrayLine : Weighted → List ℕ
+  arrayLine a = a .weight ∷ a .counts
 
-  -- the listing, line by line
-  pub listing-whole : joinTo (suc (arraysOf b)) (lineOf b) ≡ listing (decode b)
+  pub lines-many : length (lineNumbers p) ≡ suc (length (p .arrays))
+  unfolding lineNumbers
+  lines-many = ap suc (length-map (p .arrays) arrayLine)
+
+  pub listing-whole : joinTo (suc (length (p .arrays))) (λ k. line (planLine p k)) ≡ listing p
   unfolding listing
-  listing-whole = sym (ap lines stored-lines ∙ lines-join (suc (arraysOf b)) (storedLine b))
+  listing-whole = ap (λ (n : ℕ). joinTo n (λ k. line (planLine p k))) (sym lines-many) ∙ sym (lines-join (lineNumbers p))
 
-  pub lines-none : (s : Sizes) {out : List ℕ} {at : ℕ} → s ≡ sizesOf b → Room out at (listing (decode b)) → Writing (lineOf b) (s .arrays + 1) 0 (listing (decode b)) out at out at
-  lines-none s e h =
-      let f : s .arrays + 1 ≡ suc (arraysOf b) = add-one (s .arrays) ∙ ap (λ (t : Sizes). suc (t .arrays)) e in
-      writing-none (lineOf b) (s .arrays + 1) (ap (λ (k : ℕ). joinTo k (lineOf b)) f ∙ listing-whole) h
+  head-line : planLine p 0 ≡ p .rows ∷ p .columns ∷ p .denominator ∷ length (p .arrays) ∷ []
+  unfolding lineNumbers
+  head-line = refl
 
-  -- the numbers of the first line
-  module _ (i : ℕ) (s : Sizes) (e : s ≡ sizesOf b) where
-    pub rows-read : i ≡ 0 → s .rows ≡ getD (headOf b) i 0
-    rows-read h = rw (h, e)
+  pub array-line : (k : ℕ) → k < length (p .arrays) → planLine p (suc k) ≡ arrayLine (arrayAt (p .arrays) k)
+  unfolding lineNumbers
+  array-line k h = go (p .arrays) k h
+    where
+      go : (l : List Weighted) (k : ℕ) → k < length l → getD (map arrayLine l) k [] ≡ arrayLine (arrayAt l k)
+      go [] k h = absurd (not-suc-le-zero h)
+      go (x ∷ l) zero h = refl
+      go (x ∷ l) (suc k) h = go l k (le-of-suc-le-suc h)
 
-    pub columns-read : i ≡ 1 → s .columns ≡ getD (headOf b) i 0
-    columns-read h = rw (h, e)
+-- reading the numbers of a line
+module _ {b : List ℕ} {k : ℕ} {numbers : List ℕ} (o : LineOf b k numbers) where
+  is-laid : Laid b
+  is-laid = laid b (o .has .laid-out)
 
-    pub denominator-read : i ≡ 2 → s .denominator ≡ getD (headOf b) i 0
-    denominator-read h = rw (h, e)
+  pub line-long : 16 ≤ length b
+  line-long = omega (arith, contents-room is-laid)
 
-    pub arrays-read : i ≡ 3 → s .arrays ≡ getD (headOf b) i 0
-    arrays-read h = rw (h, e)
-
-  module _ (k : ℕ) where
-    first-line : k ≡ 0 → storedLine b k ≡ headOf b
-    unfolding storedLine
-    first-line e = rw e
-
-    array-line : (k ≡ 0 → ⊥) → storedLine b k ≡ arrayOf b k
-    unfolding storedLine
-    array-line h = go k h
-      where
-        go : (k : ℕ) → (k ≡ 0 → ⊥) → storedLine b k ≡ arrayOf b k
-        go zero h = absurd (h refl)
-        go (suc k) h = refl
-
-    pub head-length : k ≡ 0 → 4 ≡ length (storedLine b k)
-    head-length e = sym (ap length (first-line e))
-
-    pub array-length : (s : Sizes) → s ≡ sizesOf b → (k ≡ 0 → ⊥) → s .rows * s .columns + 1 ≡ length (storedLine b k)
-    array-length s e h =
-        add-one (s .rows * s .columns) ∙ ap suc (ap (λ (t : Sizes). t .rows * t .columns) e ∙ sym (length-tabulate (rowsOf b * columnsOf b) _)) ∙ sym (ap length (array-line h))
-
-    module _ (i : ℕ) where
-      pub head-inside : k ≡ 0 → i < length (storedLine b k) → i < 4
-      head-inside e h = rw (first-line e) at h
-
-      pub array-inside : (k ≡ 0 → ⊥) → i < length (storedLine b k) → i < length (arrayOf b k)
-      array-inside e h = rw (array-line e) at h
-
-      module _ (r : ℕ) where
-        pub head-read : k ≡ 0 → r ≡ getD (headOf b) i 0 → r ≡ getD (storedLine b k) i 0
-        head-read e h = rw (first-line e) h
-
-        pub array-read : (k ≡ 0 → ⊥) → r ≡ getD (arrayOf b k) i 0 → r ≡ getD (storedLine b k) i 0
-        array-read e h = rw (array-line e) h
-
-        pub weight-read : i ≤ 0 → r ≡ fieldOf b k → r ≡ getD (arrayOf b k) i 0
-        weight-read l h = let e : i ≡ 0 = omega arith in rw e h
-
-        pub count-read : 0 < k → 0 < i → i < length (arrayOf b k) → r ≡ countAt b (k - 1) (i - 1) → r ≡ getD (arrayOf b k) i 0
-        count-read o p h g = go i p h g
-          where
-            n : ℕ
-            n = rowsOf b * columnsOf b
-
-            go : (i : ℕ) → 0 < i → i < length (arrayOf b k) → r ≡ countAt b (k - 1) (i - 1) → r ≡ getD (arrayOf b k) i 0
-            go zero p h g = absurd (not-suc-le-zero p)
-            go (suc i) p h g =
-                let e : k - 1 + 1 ≡ k = omega arith in
-                let f : suc i - 1 ≡ i = omega arith in
-                let l : i < n = rw (length-tabulate n (countOf b k)) at (le-of-suc-le-suc h) in
-                g ∙ ap₂ (countOf b) e f ∙ sym (getD-tabulate n (countOf b k) i 0 l)
-
--- what reading a laid-out plan asks
-module _ (b : List ℕ) (h : laidOut b ≡ true) where
-  there : Stored (arraysOf b) (rowsOf b * columnsOf b) b
-  there = stored-by (laid b h)
-
-  pub head-there : 16 ≤ length b
-  head-there = omega (arith, there .contents .room)
-
-  pub weight-there : (k : ℕ) → k ≤ arraysOf b → 16 + 8 * k ≤ length b
-  weight-there k l = omega (arith, there .contents .room)
-
-  pub count-there : (k i : ℕ) → 0 < k → k ≤ arraysOf b → 0 < i → i < length (arrayOf b k)
-      → (16 + 8 * (k - 1 + 1) ≤ length b) × (offsetOf b (k - 1 + 1) + 2 * (i - 1) + 2 ≤ length b)
-  count-there k i p l q m =
-      let n : i < suc (rowsOf b * columnsOf b) = rw (length-tabulate (rowsOf b * columnsOf b) (countOf b k)) at m in
-      (omega (arith, there .contents .room), omega (arith, there .counts (k - 1) (omega arith)))
-
-  -- and that the sizes are small
-  module _ (s : Sizes) (e : s ≡ sizesOf b) where
+  module _ {s : Sizes} (e : s ≡ sizesOf b) where
     pub rows-fit : Fits w32 (s .rows)
-    rows-fit = record { fits = rw e (omega (arith, laid b h .rows)) }
+    rows-fit = record { fits = rw e (omega (arith, is-laid .sizes .rows)) }
 
     pub columns-fit : Fits w32 (s .columns)
-    columns-fit = record { fits = rw e (omega (arith, laid b h .columns)) }
+    columns-fit = record { fits = rw e (omega (arith, is-laid .sizes .columns)) }
 
     pub arrays-fit : Fits w32 (s .arrays)
-    arrays-fit = record { fits = rw e (omega (arith, laid b h .arrays)) }
+    arrays-fit = record { fits = rw e (omega (arith, is-laid .sizes .arrays)) }
 
-    pub lines-few : s .arrays + 1 ≤ 171
-    lines-few = rw e (omega (arith, laid b h .arrays))
+-- the first line
+pub head-read : {b numbers : List ℕ} {s : Sizes} → LineOf b 0 numbers → s ≡ sizesOf b
+    → LineRead b 0 (set (set (set (set numbers 0 (s .rows)) 1 (s .columns)) 2 (s .denominator)) 3 (s .arrays)) 4
+unfolding decode lineNumbers
+head-read {b} {numbers} {s} o e = go numbers (o .room)
+  where
+    head : List ℕ
+    head = rowsOf b ∷ columnsOf b ∷ denominatorOf b ∷ arraysOf b ∷ []
 
-    pub lines-fit : Fits w64 (s .arrays + 1)
-    lines-fit = record { fits = omega (arith, lines-few) }
+    go : (n : List ℕ) → length n ≡ 145 → LineRead b 0 (set (set (set (set n 0 (s .rows)) 1 (s .columns)) 2 (s .denominator)) 3 (s .arrays)) 4
+    go [] q = absurd (omega arith)
+    go (x ∷ []) q = absurd (omega arith)
+    go (x ∷ y ∷ []) q = absurd (omega arith)
+    go (x ∷ y ∷ z ∷ []) q = absurd (omega arith)
+    go (x ∷ y ∷ z ∷ w ∷ l) q = rw e (record { inside = omega arith; is = ap (λ (m : ℕ). rowsOf b ∷ columnsOf b ∷ denominatorOf b ∷ m ∷ []) (sym (decode-arrays b)) })
+
+-- the line of an array
+module _ {b : List ℕ} (k : ℕ) {numbers : List ℕ} (o : LineOf b (k + 1) numbers) where
+  pub line-array : HasArray b k
+  line-array = record { laid-out = o .has .laid-out; there = omega (arith, o .has .there) }
+
+  module _ {s : Sizes} (e : s ≡ sizesOf b) where
+    abbrev cells : ℕ
+    cells = s .rows * s .columns
+
+    pub line-sized : Sized s b
+    line-sized = record { laid-out = o .has .laid-out; sizes = e }
 
     pub cells-fit : Fits w64 (s .rows * s .columns)
-    cells-fit = record { fits = rw e (omega (arith, there .few)) }
+    cells-fit = sized-fits line-sized
 
     pub cells-fit-more : Fits w64 (s .rows * s .columns + 1)
-    cells-fit-more = record { fits = rw e (omega (arith, there .few)) }
+    cells-fit-more = record { fits = omega (arith, sized-few line-sized) }
+
+    pub line-counts : {scratch : List ℕ} → length scratch ≡ 144 → HasCounts b k scratch
+    line-counts m = record { array = line-array; room = omega (arith, cells-are line-sized, sized-few line-sized) }
+
+    module _ {scratch : List ℕ} (r : scratch ≡ written (arrayAt (decode b .arrays) k .counts) (replicate 144 0)) where
+      abbrev array : List ℕ
+      array = arrayAt (decode b .arrays) k .counts
+
+      long : length array ≡ cells
+      long = counts-length b k (line-array .there) ∙ cells-are line-sized
+
+      read : take cells scratch ≡ array
+      read = ap (take cells) r ∙ written-front array (replicate 144 0) long
+
+      pub counts-inside : cells ≤ length scratch
+      counts-inside =
+          let zeros : length (replicate {A = ℕ} 144 0) ≡ 144 = length-replicate {A = ℕ} 144 0 in
+          omega (arith, ap length r, written-length array (replicate 144 0) long (omega (arith, sized-few line-sized)), sized-few line-sized)
+
+      pub counts-part : cells ≡ length (take cells scratch)
+      counts-part = sym (ap length read ∙ long)
+
+      pub counts-few : length (take cells scratch) ≤ 144
+      counts-few = omega (arith, ap length read, long, sized-few line-sized)
+
+      pub array-read : {w : ℕ} {new : List ℕ} → Filled (λ i. getD (take cells scratch) i 0) 1 numbers new (length (take cells scratch))
+          → w ≡ arrayAt (decode b .arrays) k .weight → LineRead b (k + 1) (set new 0 w) (cells + 1)
+      array-read {w} {new} f q =
+          let f′ : Filled (λ i. getD array i 0) 1 numbers new cells = rw (read, long) at f in
+          let size : length new ≡ 145 = f .len ∙ o .room in
+          record {
+            inside = omega (arith, length-set new 0 w, size, sized-few line-sized);
+            is = ext-getD 0 _ _
+                (length-take-le (cells + 1) (set new 0 w) (omega (arith, length-set new 0 w, size, sized-few line-sized)) ∙ sym (ap length line ∙ omega (arith, long)))
+                (λ i h. place i (omega (arith, length-take-le (cells + 1) (set new 0 w) (omega (arith, length-set new 0 w, size, sized-few line-sized)))) f′ size);
+          }
+        where
+          line : planLine (decode b) (k + 1) ≡ arrayAt (decode b .arrays) k .weight ∷ array
+          line = ap (planLine (decode b)) (add-one k) ∙ array-line (decode b) k (line-array .there)
+
+          place : (i : ℕ) → i < cells + 1 → Filled (λ i. getD array i 0) 1 numbers new cells → length new ≡ 145
+              → getD (take (cells + 1) (set new 0 w)) i 0 ≡ getD (planLine (decode b) (k + 1)) i 0
+          place zero h f z = getD-take (cells + 1) (set new 0 w) 0 0 (omega arith) ∙ getD-set-same new 0 w 0 (omega arith) ∙ q ∙ sym (ap (λ (l : List ℕ). getD l 0 0) line)
+          place (suc i) h f z =
+              let s : 1 + i ≡ suc i = omega arith in
+              getD-take (cells + 1) (set new 0 w) (suc i) 0 h ∙ getD-set-other new 0 (suc i) w 0 (λ x. absurd (omega arith)) ∙ rw s at (f .inside i (omega arith))
+              ∙ sym (ap (λ (l : List ℕ). getD l (suc i) 0) line)
+
+-- line k as the code goes to it
+one-before : (k : ℕ) → (k ≡ 0 → ⊥) → k - 1 + 1 ≡ k
+one-before k h = omega arith
+
+module _ {b : List ℕ} {k : ℕ} {numbers : List ℕ} where
+  pub first-of : LineOf b k numbers → k ≡ 0 → LineOf b 0 numbers
+  first-of o e = rw e at o
+
+  pub first-read : {n : ℕ} → k ≡ 0 → LineRead b 0 numbers n → LineRead b k numbers n
+  first-read e r = rw e r
+
+  pub later-of : LineOf b k numbers → (k ≡ 0 → ⊥) → LineOf b (k - 1 + 1) numbers
+  later-of o h = rw (one-before k h) o
+
+  pub later-read : {n : ℕ} → (k ≡ 0 → ⊥) → LineRead b (k - 1 + 1) numbers n → LineRead b k numbers n
+  later-read h r = rw (one-before k h) at r
+
+-- the listing, line by line
+module _ (b : List ℕ) (h : laidOut b ≡ true) {s : Sizes} (e : s ≡ sizesOf b) where
+  pub lines-few : s .arrays + 1 ≤ 171
+  lines-few = rw e (omega (arith, laid b h .sizes .arrays))
+
+  pub lines-fit : Fits w64 (s .arrays + 1)
+  lines-fit = record { fits = omega (arith, lines-few) }
+
+  pub lines-are : s .arrays ≡ length (decode b .arrays)
+  lines-are = rw e (sym (decode-arrays b))
+
+  pub lines-none : {out : List ℕ} {at : ℕ} → Room out at (listing (decode b)) → Writing (λ k. line (planLine (decode b) k)) (s .arrays + 1) 0 (listing (decode b)) out at out at
+  lines-none r =
+      let f : s .arrays + 1 ≡ suc (length (decode b .arrays)) = add-one (s .arrays) ∙ ap suc lines-are in
+      writing-none (λ k. line (planLine (decode b) k)) (s .arrays + 1) (ap (λ (k : ℕ). joinTo k (λ k. line (planLine (decode b) k))) f ∙ listing-whole (decode b)) r
+
+pub plan-long : (b : List ℕ) → laidOut b ≡ true → 16 ≤ length b
+plan-long b h = omega (arith, contents-room (laid b h))
 
 -- a refusal, part by part
 abbrev pub refusedSpace : List ℕ

@@ -5,32 +5,24 @@ use mathlib.Core.List.{List, _++_}
 use mathlib.Core.Option.{Option, some, none}
 use Prim.Native.Nat.{ℕ, _-_, _≤_}
 use native.Mathlib.Omega.{arith}
-use borrow.Author.Tests.{le-leb}
 use lib.ListN.{length, getD, take, drop, replicate, length-append}
 use lib.Seq.{take-at}
-use Rattle.table.specs.Answer.{written}
-use Rattle.table.specs.Check.{checkOf, numberOf}
-use Rattle.table.specs.declared.Table.{Table}
-use Rattle.table.specs.declared.Refusal.{Refusal}
-use Rattle.table.specs.declared.Checked.{Checked}
-use Rattle.table.specs.declared.Checked.the-variants as table
-use Rattle.table.proofs.Lists.{and-left}
-use Rattle.stored.specs.Form.{laidOut, decode}
-use Rattle.stored.specs.Open.{opens, consistent}
+use Rattle.refusals.specs.declared.Refusal.{Refusal}
+use Rattle.refusals.specs.Numbers.{numberOf}
+use Rattle.refusals.specs.Due.{due, refusedOr, after}
+use Rattle.table.specs.Check.{tableRefusal}
+use Rattle.table.proofs.Tables.{refused-table, refused-nothing}
+use Rattle.form.specs.Form.{maxLength, laidOut, decode}
+use Rattle.opening.proofs.Opening.{opens-layout}
 use Rattle.plan.specs.declared.Planned.{Planned}
 use Rattle.plan.specs.declared.Planned.the-variants.{Length, Refused}
-use Rattle.plan.specs.Rounds.{planOf}
-use Rattle.plan.specs.Call.{planBytes, ifAccepted, plannedOf, planAnswer, afterPlan}
-use Rattle.plan.specs.Promises.{Promises}
+use Rattle.plan.specs.Call.{planBytes, planTests, planRefusal, planAnswer}
+use Rattle.plan.specs.Promises.{PlanAnswers}
 use Rattle.text.specs.declared.Parsed.{Parsed}
 use Rattle.text.specs.Parsed.{parsedOf}
-use Rattle.text.specs.Text.{parse, listing, refused, refusedText, ifPlanned, tableOutput, printed, output}
+use Rattle.text.specs.Text.{parse, listing, refused, refusedText, tableOutput, printed, output}
 use Rattle.text.specs.Write.{Wrote}
 use Rattle.text.proofs.Answers.{accepted-count, padded-at, padded-part}
-
-opens-laid-out : (b : List ℕ) → opens b ≡ true → laidOut b ≡ true
-unfolding opens
-opens-laid-out b h = and-left (laidOut b) (consistent (decode b)) h
 
 -- the first n bytes of a buffer are laid out, and list what is printed
 pub record Listed (n : ℕ) (new s : List ℕ) : Type 0 where
@@ -40,43 +32,49 @@ pub record Listed (n : ℕ) (new s : List ℕ) : Type 0 where
   pub lists : listing (decode (take n new)) ≡ s
 
 -- what the call "plan" left, in a buffer with room for any plan
-module _ (r c d : ℕ) (g : List ℕ) (p : Planned) (old new : List ℕ)
-    (f : (p ≡ planAnswer r c d g (length old))
-    × ((new ≡ afterPlan p (written (planBytes r c d g) old) old)
-    × ((t : Table) → table.Accepted t ≡ checkOf r c d g → Promises r c d g)))
-    (room : 50912 ≤ length old) where
-  told : (k : Checked) → checkOf r c d g ≡ k → p ≡ ifAccepted k (Length (length (planBytes r c d g)))
-  unfolding planAnswer plannedOf
-  told (table.Accepted t) q = f .0 ∙ rw q (simp (le-leb (length (planBytes r c d g)) (length old) (omega (arith, f .1 .1 t (sym q) .len-high))))
-  told (table.Refused x) q = f .0 ∙ rw q refl
+module _ {r c d : ℕ} {g old new : List ℕ} {p : Planned} (f : PlanAnswers r c d g old p new) (room : maxLength ≤ length old) where
+  -- with so much room nothing is due but what the table gives
+  due-so : planRefusal r c d g (length old) ≡ tableRefusal r c d g
+  unfolding planRefusal
+  due-so = go (tableRefusal r c d g) refl
+    where
+      go : (o : Option Refusal) → tableRefusal r c d g ≡ o → due (planTests r c d g (length old)) ≡ tableRefusal r c d g
+      go none e = refused-nothing r c d g (length old) _ e (omega (arith, f .promises e .len-high)) ∙ sym e
+      go (some x) e = refused-table r c d g (length old) _ x e ∙ sym e
 
-  refusal : (x : Refusal) → p ≡ Refused x → (k : Checked) → p ≡ ifAccepted k (Length (length (planBytes r c d g)))
-      → refused (numberOf x) ≡ ifPlanned k (planOf r c d g)
-  refusal x h (table.Accepted t) a = let o : _≡_ {A = ℕ} 0 1 = cc in absurd (omega arith)
-  refusal x h (table.Refused y) a = let e : x ≡ y = cc in ap (λ z. refused (numberOf z)) e
+  told : p ≡ refusedOr Refused (Length (length (planBytes r c d g))) (tableRefusal r c d g)
+  unfolding planAnswer
+  told = f .answer ∙ ap (refusedOr Refused (Length (length (planBytes r c d g)))) due-so
 
   pub refusal-printed : (x : Refusal) → p ≡ Refused x → (out after : List ℕ) (end : ℕ) → Wrote out 0 (refused (numberOf x)) after end
       → Wrote out 0 (tableOutput r c d g) after end
-  refusal-printed x h out after end w = rw (refusal x h (checkOf r c d g) (told (checkOf r c d g) refl)) at w
-
-  listed : (n : ℕ) → p ≡ Length n → (k : Checked) → checkOf r c d g ≡ k → Listed n new (ifPlanned k (planOf r c d g))
-  listed n h (table.Refused x) q = let a = told (table.Refused x) q in let o : _≡_ {A = ℕ} 0 1 = cc in absurd (omega arith)
-  listed n h (table.Accepted t) q =
-      let a = told (table.Accepted t) q in
-      let m : n ≡ length (planBytes r c d g) = cc in
-      let rest : List ℕ = drop (length (planBytes r c d g)) old in
-      let e : new ≡ planBytes r c d g ++ rest = rw h at (f .1 .0) in
-      let b : take n new ≡ planBytes r c d g = ap (take n) e ∙ take-at (planBytes r c d g) rest n (sym m) in
-      let k = f .1 .1 t (sym q) in
-      record {
-        inside = omega (arith, m, ap length e, length-append (planBytes r c d g) rest);
-        len = m ∙ ap length (sym b);
-        laid = ap laidOut b ∙ opens-laid-out (planBytes r c d g) (k .opening);
-        lists = ap listing (ap decode b ∙ k .decodes);
-      }
+  refusal-printed x h out after end w = rw (go (tableRefusal r c d g) refl) at w
+    where
+      go : (o : Option Refusal) → tableRefusal r c d g ≡ o → refused (numberOf x) ≡ tableOutput r c d g
+      go none e = let a = told in let z : _≡_ {A = ℕ} 0 1 = cc in absurd (omega arith)
+      go (some y) e = let a = told in let q : x ≡ y = cc in ap (λ z. refused (numberOf z)) q ∙ rw e refl
 
   pub plan-listed : (n : ℕ) → p ≡ Length n → Listed n new (tableOutput r c d g)
-  plan-listed n h = listed n h (checkOf r c d g) refl
+  unfolding after
+  plan-listed n h = go (tableRefusal r c d g) refl
+    where
+      rest : List ℕ
+      rest = drop (length (planBytes r c d g)) old
+
+      go : (o : Option Refusal) → tableRefusal r c d g ≡ o → Listed n new (tableOutput r c d g)
+      go (some x) e = let a = told in let z : _≡_ {A = ℕ} 0 1 = cc in absurd (omega arith)
+      go none e =
+          let a = told in
+          let m : n ≡ length (planBytes r c d g) = cc in
+          let q : new ≡ planBytes r c d g ++ rest = rw (due-so, e) at (f .buffer) in
+          let b : take n new ≡ planBytes r c d g = ap (take n) q ∙ take-at (planBytes r c d g) rest n (sym m) in
+          let k = f .promises e in
+          record {
+            inside = omega (arith, m, ap length q, length-append (planBytes r c d g) rest);
+            len = m ∙ ap length (sym b);
+            laid = ap laidOut b ∙ opens-layout (planBytes r c d g) (k .opening);
+            lists = ap listing (ap decode b ∙ k .decodes) ∙ rw e refl;
+          }
 
 pub listing-printed : {n : ℕ} {new s : List ℕ} → Listed n new s → (out after : List ℕ) (end : ℕ)
     → Wrote out 0 (listing (decode (take n new))) after end → Wrote out 0 s after end

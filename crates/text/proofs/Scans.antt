@@ -13,8 +13,8 @@ use lib.Seq.{drop-cons, getD-append-seam, set-append-seam}
 use lib.Dec.{leb, eqb}
 use mir.Val.{Fits}
 use mir.Syntax.{w64}
-use Rattle.table.specs.Lists.{all}
-use Rattle.table.proofs.Lists.{and-left, and-both, all-intro, all-fails, all-append}
+use Rattle.base.specs.Lists.{all}
+use Rattle.base.proofs.Lists.{and-left, and-both, all-intro, all-fails, all-append}
 use Rattle.text.specs.Text.{isDigit, isGap, isText, isNumber, numbersFrom, parse}
 use Rattle.text.specs.declared.Parsed.{Parsed}
 use Rattle.text.specs.Parsed.{padded, parsedOf, oneIf}

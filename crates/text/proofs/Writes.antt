@@ -1,59 +1,34 @@
 -- Bytes written into a buffer, one part after another. Assumes nothing.
-use mathlib.Core.Path.{_≡_, refl, sym, ap, ap₂, _∙_}
+use mathlib.Core.Path.{_≡_, refl, sym, ap, _∙_}
 use mathlib.Core.Logic.{⊎-elim}
-use mathlib.Core.List.{List, [], _∷_, _++_, append-assoc}
+use mathlib.Core.List.{List, [], _∷_, _++_}
 use Prim.Native.Nat.{ℕ, zero, suc, _+_, _/_, _%_, _<_, _≤_}
-use native.Mathlib.Nat.{add-zero, eq-or-lt-of-le, le-of-suc-le-suc}
+use native.Mathlib.Nat.{eq-or-lt-of-le, le-of-suc-le-suc}
 use native.Mathlib.Numerals.{add-one}
 use native.Mathlib.Omega.{arith}
-use lib.ListN.{length, getD, set, take, drop, length-append, length-take, length-drop, take-append-drop}
-use lib.Seq.{take-at, drop-at, drop-drop, take-suc, take-length, set-split, length-take-le}
-use Rattle.table.specs.Lists.{joinTo}
+use lib.ListN.{length, getD, set, take, drop, length-append}
+use lib.Seq.{take-suc, take-length, length-take-le}
+use Rattle.base.specs.Lists.{joinTo}
+use Rattle.base.proofs.Puts.{length-put, put-then, put-start, put-one, put-nothing}
 use Rattle.text.specs.Text.{decimal}
-use Rattle.text.specs.Write.{put, Room, Wrote, gapBefore}
+use Rattle.text.specs.Write.{Room, Wrote, gapBefore}
 use Rattle.text.proofs.Decimals.{decimal-small, decimal-more}
 
 module _ (out : List ℕ) (at : ℕ) where
-  put-length : (s : List ℕ) → at + length s ≤ length out → length (put out at s) ≡ length out
-  unfolding put
-  put-length s h = simp (length-append, length-take, length-drop) (omega arith)
-
-  put-put : (s t : List ℕ) → at + length (s ++ t) ≤ length out → put (put out at s) (at + length s) t ≡ put out at (s ++ t)
-  unfolding put
-  put-put s t h =
-      let p : List ℕ = take at out in
-      let n : ℕ = at + length s in
-      let rest : List ℕ = drop n out in
-      let both : length (s ++ t) ≡ length s + length t = length-append s t in
-      let e : length (p ++ s) ≡ n = length-append p s ∙ ap (λ (k : ℕ). k + length s) (length-take-le at out (omega arith)) in
-      let cut : p ++ (s ++ rest) ≡ p ++ s ++ rest = sym (append-assoc p s rest) in
-      let first : take n (p ++ (s ++ rest)) ≡ p ++ s = ap (take n) cut ∙ take-at (p ++ s) rest n e in
-      let last : drop (n + length t) (p ++ (s ++ rest)) ≡ drop (n + length t) out =
-      sym (drop-drop (length t) n (p ++ (s ++ rest)))
-      ∙ ap (drop (length t)) (ap (drop n) cut ∙ drop-at (p ++ s) rest n e)
-      ∙ drop-drop (length t) n out in
-      let k : n + length t ≡ at + length (s ++ t) = omega arith in
-      ap₂ (λ (x y : List ℕ). x ++ (t ++ y)) first (last ∙ ap (λ (j : ℕ). drop j out) k)
-      ∙ append-assoc p s _
-      ∙ ap (λ (x : List ℕ). p ++ x) (sym (append-assoc s t _))
-
   pub wrote-none : Wrote out at [] out at
-  unfolding put
-  wrote-none = record { next = omega arith; buffer = sym (ap (λ (k : ℕ). take at out ++ drop k out) (add-zero at) ∙ take-append-drop at out) }
+  wrote-none = record { next = omega arith; buffer = put-nothing out at }
 
   pub wrote-byte : (b : ℕ) → at + 1 ≤ length out → Wrote out at (b ∷ []) (set out at b) (at + 1)
-  unfolding put
-  wrote-byte b h = record { next = refl; buffer = set-split out at b (omega arith) ∙ ap (λ (k : ℕ). take at out ++ (b ∷ drop k out)) (sym (add-one at)) }
+  wrote-byte b h = record { next = refl; buffer = put-one out at b h }
 
 -- a buffer keeps its length
 pub wrote-length : {out : List ℕ} {at : ℕ} {s after : List ℕ} {end : ℕ} → Wrote out at s after end → Room out at s → length after ≡ length out
-wrote-length {out} {at} {s} w h = ap length (w .buffer) ∙ put-length out at s (h .fits)
+wrote-length {out} {at} {s} w h = ap length (w .buffer) ∙ length-put out at s (h .fits)
 
 -- what was written from the start on lies inside the buffer
 module _ {out s after : List ℕ} {r : ℕ} (w : Wrote out 0 s after r) where
   pub wrote-inside : r ≤ length after
-  unfolding put
-  wrote-inside = omega (arith, w .next, ap length (w .buffer), length-append (take 0 out) (s ++ drop (0 + length s) out), length-append s (drop (0 + length s) out))
+  wrote-inside = omega (arith, w .next, ap length (w .buffer ∙ put-start out s), length-append s (drop (length s) out))
 
   pub wrote-part : r ≡ length (take r after)
   wrote-part = sym (length-take-le r after wrote-inside)
@@ -68,9 +43,9 @@ module _ (s t : List ℕ) {out : List ℕ} {at : ℕ} (h : Room out at (s ++ t))
     room-then = record { fits = omega (arith, h .fits, w .next, length-append s t, wrote-length w room-first) }
 
     pub wrote-then : {last : List ℕ} {r : ℕ} → Wrote after end t last r → Wrote out at (s ++ t) last r
-    wrote-then v = record {
+    wrote-then {last} v = record {
       next = omega (arith, w .next, v .next, length-append s t);
-      buffer = v .buffer ∙ ap₂ (λ (o : List ℕ) (k : ℕ). put o k t) (w .buffer) (w .next) ∙ put-put out at s t (h .fits);
+      buffer = put-then out at s t after last (w .buffer) (v .buffer) (w .next) (omega (arith, w .next, h .fits, length-append s t));
     }
 
 -- a loop that writes f 0, f 1, .. up to f (n - 1)

@@ -5,11 +5,11 @@ use mathlib.Core.Option.{Option, some, none}
 use Prim.Native.Nat.{ℕ, zero, suc, _+_, _-_, _*_, _/_, _%_}
 use lib.ListN.{length, getD, drop}
 use lib.Dec.{leb, ltb, eqb}
-use Rattle.table.specs.Lists.{all}
-use Rattle.table.specs.Check.{checkOf, numberOf}
-use Rattle.table.specs.declared.Checked.{Checked}
-use Rattle.table.specs.declared.Checked.the-variants.{Accepted, Refused}
-use Rattle.stored.specs.Plan.{Plan}
+use Rattle.base.specs.Lists.{all}
+use Rattle.refusals.specs.Numbers.{numberOf}
+use Rattle.refusals.specs.Due.{refusedOr}
+use Rattle.table.specs.Check.{tableRefusal}
+use Rattle.form.specs.Plan.{Plan}
 use Rattle.plan.specs.Rounds.{planOf}
 
 -- "It reads up to 4,096 bytes"
@@ -91,12 +91,8 @@ abbrev pub refusedText : List ℕ
 refusedText = refusedWord ++ (32 ∷ 116 ∷ 101 ∷ 120 ∷ 116 ∷ 10 ∷ [])
 
 -- what is printed of a table: the listing of its plan, or its refusal
-abbrev pub ifPlanned : Checked → Plan → List ℕ
-ifPlanned (Accepted t) p = listing p
-ifPlanned (Refused x) p = refused (numberOf x)
-
 abbrev pub tableOutput : ℕ → ℕ → ℕ → List ℕ → List ℕ
-tableOutput r c d g = ifPlanned (checkOf r c d g) (planOf r c d g)
+tableOutput r c d g = refusedOr (λ x. refused (numberOf x)) (listing (planOf r c d g)) (tableRefusal r c d g)
 
 -- "r, c, D, then the cells": what is printed of the numbers
 abbrev pub printed : Option (List ℕ) → List ℕ

@@ -1,14 +1,13 @@
 -- What is written into a lent buffer, and the lines of a stored plan. Assumes nothing.
 use mathlib.Core.Path.{_≡_}
-use mathlib.Core.List.{List, [], _∷_, _++_}
-use Prim.Native.Nat.{ℕ, zero, suc, _+_, _*_, _≤_}
-use lib.ListN.{length, take, drop}
-use Rattle.table.specs.Lists.{tabulate}
-use Rattle.stored.specs.Form.{rowsOf, columnsOf, denominatorOf, arraysOf, fieldOf, countOf}
-
--- a buffer with some bytes from a place on, and all else as before
-unfoldable pub put : List ℕ → ℕ → List ℕ → List ℕ
-put out at s = take at out ++ (s ++ drop (at + length s) out)
+use mathlib.Core.Bool.{true}
+use mathlib.Core.List.{List, [], _∷_}
+use Prim.Native.Nat.{ℕ, zero, suc, _+_, _≤_}
+use lib.ListN.{length, getD, take}
+use Rattle.base.specs.Buffers.{putAt}
+use Rattle.form.specs.Plan.{Plan}
+use Rattle.form.specs.Form.{laidOut, decode}
+use Rattle.text.specs.Text.{line, lineNumbers}
 
 -- some bytes fit into a buffer from a place on
 pub record Room (out : List ℕ) (at : ℕ) (s : List ℕ) : Type 0 where
@@ -17,7 +16,7 @@ pub record Room (out : List ℕ) (at : ℕ) (s : List ℕ) : Type 0 where
 -- a call wrote some bytes from a place on, and returned the place after them
 pub record Wrote (out : List ℕ) (at : ℕ) (s after : List ℕ) (r : ℕ) : Type 0 where
   pub next : r ≡ at + length s
-  pub buffer : after ≡ put out at s
+  pub buffer : after ≡ putAt out at s
 
 -- what stands before the number at a place of a line
 abbrev pub gapBefore : ℕ → List ℕ
@@ -28,13 +27,26 @@ gapBefore (suc i) = 32 ∷ []
 abbrev pub maxListing : ℕ
 maxListing = 148766
 
--- the numbers of each line that a stored plan is printed as
-abbrev pub headOf : List ℕ → List ℕ
-headOf b = rowsOf b ∷ columnsOf b ∷ denominatorOf b ∷ arraysOf b ∷ []
+-- the numbers of line k of a plan's listing
+abbrev pub planLine : Plan → ℕ → List ℕ
+planLine p k = getD (lineNumbers p) k []
 
-abbrev pub arrayOf : List ℕ → ℕ → List ℕ
-arrayOf b k = fieldOf b k ∷ tabulate (rowsOf b * columnsOf b) (countOf b k)
+-- the listing of a plan that is laid out has a line k
+pub record HasLine (b : List ℕ) (k : ℕ) : Type 0 where
+  pub laid-out : laidOut b ≡ true
+  pub there : k ≤ length (decode b .arrays)
 
-unfoldable pub storedLine : List ℕ → ℕ → List ℕ
-storedLine b zero = headOf b
-storedLine b (suc k) = arrayOf b (suc k)
+-- and there is room for its numbers
+pub record LineOf (b : List ℕ) (k : ℕ) (numbers : List ℕ) : Type 0 where
+  pub has : HasLine b k
+  pub room : length numbers ≡ 145
+
+-- or for its bytes
+pub record Printable (b : List ℕ) (k : ℕ) (out : List ℕ) (at : ℕ) : Type 0 where
+  pub has : HasLine b k
+  pub room : Room out at (line (planLine (decode b) k))
+
+-- the first n numbers are those of line k
+pub record LineRead (b : List ℕ) (k : ℕ) (numbers : List ℕ) (n : ℕ) : Type 0 where
+  pub inside : n ≤ length numbers
+  pub is : take n numbers ≡ planLine (decode b) k

@@ -4,7 +4,7 @@ ghost use mathlib.Core.Bool.{true};
 ghost use mathlib.Core.List.{List, map};
 ghost use Prim.Native.Nat.{ℕ, _<_, _≤_};
 ghost use lib.ListN.{length, getD};
-ghost use Rattle.stored.specs.Form.{laidOut, decode};
+ghost use Rattle.form.specs.Form.{laidOut, decode};
 ghost use Rattle.text.specs.Text.{maxText, maxNumber, parse, decimal, listing, output};
 ghost use Rattle.text.specs.Write.{maxListing};
 ghost use Rattle.text.specs.Examples.{parses, numbers, numerals, outputs};

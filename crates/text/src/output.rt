@@ -7,6 +7,7 @@ use crate::parse::parse;
 use crate::print::print_plan_bytes;
 use crate::print::print_refusal;
 use crate::print::print_text_refusal;
+use form::MAX_LENGTH;
 use plan::Planned;
 use plan::plan;
 
@@ -15,7 +16,7 @@ fn output_table(rows: u32, columns: u32, denominator: u32, cells: &[u32], out: &
     requires { ⌜ maxListing ≤ length (now out) ⌝ }
     ensures { λ r. ⌜ Wrote (now (out .entry)) 0 (tableOutput rows columns denominator (now (cells .entry))) (now (out .exit)) r ⌝ }
 {
-    let mut buffer = [0u8; 50912];
+    let mut buffer = [0u8; MAX_LENGTH];
     let planned = plan(rows, columns, denominator, cells, &mut buffer);
     match planned {
         Planned::Refused(x) => print_refusal(x, out, 0),

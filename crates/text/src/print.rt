@@ -1,83 +1,90 @@
 // Printing a stored plan, and refusals.
 ghost use mathlib.Core.Path.{_≡_};
 ghost use mathlib.Core.Bool.{true};
-ghost use Prim.Native.Nat.{_+_, _<_, _≤_};
+ghost use Prim.Native.Nat.{_+_, _≤_};
 ghost use lib.ListN.{length, getD};
-ghost use Rattle.table.specs.Check.{numberOf};
-ghost use Rattle.stored.specs.Form.{arraysOf, laidOut, decode};
+ghost use Rattle.base.specs.Fill.{Filled};
+ghost use Rattle.form.specs.Form.{laidOut, decode};
+ghost use Rattle.refusals.specs.Numbers.{numberOf};
 ghost use Rattle.text.specs.Text.{line, listing, refused, refusedText};
-ghost use Rattle.text.specs.Write.{maxListing, Room, Wrote, headOf, arrayOf, storedLine};
+ghost use Rattle.text.specs.Write.{maxListing, Room, Wrote, planLine, LineOf, LineRead, Printable};
 use crate::write::put_bytes;
 use crate::write::put_decimal;
 use crate::write::put_number;
-use stored::body::count_at;
-use stored::layout::field;
-use stored::layout::sizes;
-use table::Refusal;
+use base::convert::u16_to_u32;
+use form::layout::sizes;
+use form::read::read_array;
+use form::read::weight;
+use refusals::Refusal;
 
-// The number at place i of the first line.
-fn head_number(plan: &[u8], i: usize) -> u32
-    requires { ⌜ (laidOut (now plan) ≡ true) × (i < 4) ⌝ }
-    ensures { λ r. ⌜ r ≡ getD (headOf (now (plan .entry))) i 0 ⌝ }
+// Prints numbers as a line.
+fn print_numbers(numbers: &[u32], out: &mut [u8], at: usize) -> usize
+    requires { ⌜ Room (now out) at (line (now numbers)) ⌝ }
+    ensures { λ r. ⌜ Wrote (now (out .entry)) at (line (now (numbers .entry))) (now (out .exit)) r ⌝ }
+{
+    let mut end = at;
+    for i in 0..numbers.len() {
+        end = put_number(out, end, i, numbers[i]);
+    }
+    put_bytes(out, end, b"\n")
+}
+
+// The numbers of the first line: the sizes.
+fn head_numbers(plan: &[u8], numbers: &mut [u32; 145]) -> usize
+    requires { ⌜ LineOf (now plan) 0 (now numbers) ⌝ }
+    ensures { λ r. ⌜ LineRead (now (plan .entry)) 0 (now (numbers .exit)) r ⌝ }
 {
     let s = sizes(plan);
-    if i == 0 {
-        return s.rows as u32;
-    }
-    if i == 1 {
-        return s.columns as u32;
-    }
-    if i == 2 {
-        return s.denominator;
-    }
-    s.arrays as u32
+    numbers[0] = s.rows as u32;
+    numbers[1] = s.columns as u32;
+    numbers[2] = s.denominator;
+    numbers[3] = s.arrays as u32;
+    4
 }
 
-// The number at place i of the line of array k: the weight, then the counts.
-fn array_number(plan: &[u8], k: usize, i: usize) -> u32
-    requires { ⌜ (laidOut (now plan) ≡ true) × (0 < k) × (k ≤ arraysOf (now plan)) × (i < length (arrayOf (now plan) k)) ⌝ }
-    ensures { λ r. ⌜ r ≡ getD (arrayOf (now (plan .entry)) k) i 0 ⌝ }
+// Counts in a wider type, after the place for a weight.
+fn widen(counts: &[u16], numbers: &mut [u32; 145])
+    requires { ⌜ (length (now counts) ≤ 144) × (length (now numbers) ≡ 145) ⌝ }
+    ensures { λ _. ⌜ Filled (λ i. getD (now (counts .entry)) i 0) 1 (now (numbers .entry)) (now (numbers .exit)) (length (now (counts .entry))) ⌝ }
 {
-    if 0 < i {
-        return count_at(plan, k - 1, i - 1) as u32;
+    for i in 0..counts.len() {
+        numbers[1 + i] = u16_to_u32(counts[i]);
     }
-    field(plan, k)
 }
 
-// The number at place i of line k.
-fn line_number(plan: &[u8], k: usize, i: usize) -> u32
-    requires { ⌜ (laidOut (now plan) ≡ true) × (k ≤ arraysOf (now plan)) × (i < length (storedLine (now plan) k)) ⌝ }
-    ensures { λ r. ⌜ r ≡ getD (storedLine (now (plan .entry)) k) i 0 ⌝ }
+// The numbers of the line of array k, counted from 0: the weight, then the counts.
+fn array_numbers(plan: &[u8], k: usize, numbers: &mut [u32; 145]) -> usize
+    requires { ⌜ LineOf (now plan) (k + 1) (now numbers) ⌝ }
+    ensures { λ r. ⌜ LineRead (now (plan .entry)) (k + 1) (now (numbers .exit)) r ⌝ }
 {
-    if k == 0 {
-        return head_number(plan, i);
-    }
-    array_number(plan, k, i)
-}
-
-// How many numbers line k has.
-fn line_length(plan: &[u8], k: usize) -> usize
-    requires { ⌜ laidOut (now plan) ≡ true ⌝ }
-    ensures { λ r. ⌜ r ≡ length (storedLine (now (plan .entry)) k) ⌝ }
-{
-    if k == 0 {
-        return 4;
-    }
     let s = sizes(plan);
-    s.rows * s.columns + 1
+    let cells = s.rows * s.columns;
+    let mut counts = [0u16; 144];
+    read_array(plan, k, &mut counts);
+    widen(&counts[..cells], numbers);
+    numbers[0] = weight(plan, k);
+    cells + 1
+}
+
+// The numbers of line k, and how many they are.
+fn line_numbers(plan: &[u8], k: usize, numbers: &mut [u32; 145]) -> usize
+    requires { ⌜ LineOf (now plan) k (now numbers) ⌝ }
+    ensures { λ r. ⌜ LineRead (now (plan .entry)) k (now (numbers .exit)) r ⌝ }
+{
+    if k == 0 {
+        return head_numbers(plan, numbers);
+    }
+    array_numbers(plan, k - 1, numbers)
 }
 
 // Line k.
 fn print_line(plan: &[u8], k: usize, out: &mut [u8], at: usize) -> usize
-    requires { ⌜ (laidOut (now plan) ≡ true) × (k ≤ arraysOf (now plan)) × Room (now out) at (line (storedLine (now plan) k)) ⌝ }
-    ensures { λ r. ⌜ Wrote (now (out .entry)) at (line (storedLine (now (plan .entry)) k)) (now (out .exit)) r ⌝ }
+    requires { ⌜ Printable (now plan) k (now out) at ⌝ }
+    ensures { λ r. ⌜ Wrote (now (out .entry)) at (line (planLine (decode (now (plan .entry))) k)) (now (out .exit)) r ⌝ }
 {
-    let n = line_length(plan, k);
-    let mut end = at;
-    for i in 0..n {
-        end = put_number(out, end, i, line_number(plan, k, i));
-    }
-    put_bytes(out, end, b"\n")
+    let mut numbers = [0u32; 145];
+    let n = line_numbers(plan, k, &mut numbers);
+    print_numbers(&numbers[..n], out, at)
 }
 
 // All lines of a stored plan.
@@ -108,7 +115,7 @@ pub fn print_refusal(r: Refusal, out: &mut [u8], at: usize) -> usize
     ensures { λ end. ⌜ Wrote (now (out .entry)) at (refused (numberOf r)) (now (out .exit)) end ⌝ }
 {
     let first = put_bytes(out, at, b"refused ");
-    let second = put_decimal(out, first, table::number(r));
+    let second = put_decimal(out, first, refusals::number(r));
     put_bytes(out, second, b"\n")
 }
 

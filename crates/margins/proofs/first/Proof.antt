@@ -4,21 +4,12 @@ use borrow.Author.Needs.{needs}
 use native.Mathlib.Omega.{arith}
 use Rattle.margins.proofs.FirstMatrices.{places-start, feasible-start, first-matrix}
 
-copy-of-requires : tie.Need-copy-of-requires
-copy-of-requires c κs = search needs
-
-free-places-requires : tie.Need-free-places-requires
-free-places-requires c κs = search needs
-
 fill-requires : tie.Need-fill-requires
 fill-requires c κs =
     let s = c .before .before .before .before .before .before .pre in
     let u = c .before .before .before .free-places .ensures in
     let l = c .before .before .before .before .before .copy-of .ensures in
     (places-start (s .0) (s .1) u l, (l .len, feasible-start (s .0) (s .1) u l))
-
-fix-all-requires : tie.Need-fix-all-requires
-fix-all-requires c κs = search needs
 
 bytes-of-requires : tie.Need-bytes-of-requires
 bytes-of-requires c κs p q hp hq = omega (arith, c .before .before .fix-all .ensures .0 .single p q hp hq)
@@ -36,9 +27,9 @@ pub first-spec : {M : Type 1} → statement M
 first-spec =
     tie.close
     (tie.spec
-    copy-of-requires
-    free-places-requires
+    (λ c κs. search needs)
+    (λ c κs. search needs)
     fill-requires
-    fix-all-requires
+    (λ c κs. search needs)
     bytes-of-requires
     returns)

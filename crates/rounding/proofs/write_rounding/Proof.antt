@@ -4,14 +4,11 @@ use borrow.Author.Needs.{needs}
 use Rattle.rounding.proofs.write_rounding.Statement.{statement}
 use Rattle.rounding.proofs.write_rounding.Tie as tie
 
-entries-requires : tie.Need-entries-requires
-entries-requires c κs = search needs
-
 round-grid-requires : tie.Need-round-grid-requires
 round-grid-requires c κs =
     let e = c .before .before in
     let s = e .before .before .before in
-    (table-grid (s .pre .0) _ (e .entries .ensures), (s .pre .0 .some-denominator, refl))
+    record { grid = table-grid (s .pre .0) _ (e .entries .ensures); some = s .pre .0 .some-denominator; len = refl }
 
 write-cells-requires : tie.Need-write-cells-requires
 write-cells-requires c κs =
@@ -19,9 +16,6 @@ write-cells-requires c κs =
     let e = g .before .before .before in
     let s = e .before .before .before in
     cells-ready (s .pre .0) (e .entries .ensures) (g .round-grid .ensures) _ (s .pre .1)
-
-same-length : tie.Need-same-length
-same-length c = search needs
 
 returns : tie.Need-returns
 returns c =
@@ -36,4 +30,4 @@ returns c =
 pub write-rounding-spec : {M : Type 1} → statement M
 write-rounding-spec =
     tie.close
-    (tie.spec entries-requires round-grid-requires write-cells-requires same-length returns)
+    (tie.spec (λ c κs. search needs) round-grid-requires write-cells-requires (λ c. search needs) returns)

@@ -4,12 +4,12 @@ use borrow.Author.Needs.{needs}
 use native.Mathlib.Omega.{arith}
 use Prim.Native.Nat.{_≤_, _-_}
 use lib.ListN.{replicate}
-use Rattle.margins.specs.Grid.{start, Places, Filled}
+use Rattle.margins.specs.Board.{start, Places, RowsFilled}
 use Rattle.margins.proofs.Fills.{filled-none, filled-then, filled-as, lastRows, rows-none, rows-next, rows-all, room-next}
 
 abbrev Inv-loop : tie.InvT-loop
 Inv-loop up₀ down₀ lack₀ more k₀ up down lack k =
-    (k ≤ 13) × (Places up down (replicate 13 0) × Filled (start up₀ down₀) (start up down) lack₀ lack (lastRows more k))
+    (k ≤ 13) × (Places up down (replicate 13 0) × RowsFilled (start up₀ down₀) (start up down) lack₀ lack (lastRows more k))
 
 abbrev μ-loop : tie.MeasureT-loop
 μ-loop up₀ down₀ lack₀ more k₀ up down lack k = 13 - k
@@ -17,23 +17,11 @@ abbrev μ-loop : tie.MeasureT-loop
 loop-holds : tie.Need-loop-holds Inv-loop μ-loop
 loop-holds c = (omega arith, (c .pre .0, filled-none (c .pre .1 .0) (rows-none (c .args .more .now))))
 
-sub-row : tie.Need-sub-row Inv-loop μ-loop
-sub-row c = search needs
-
-element-copy-out-fill-row : tie.Need-element-copy-out-fill-row Inv-loop μ-loop
-element-copy-out-fill-row c = search needs
-
 fill-row-requires : tie.Need-fill-row-requires Inv-loop μ-loop
 fill-row-requires c κs =
     let s = c .before .before .before .before .before .before in
     let a = c .before .before .before .before .before .loop .inv .1 in
     (a .0, (a .1 .lack-len, (search needs, room-next (s .args .more .now) (omega arith) (s .pre .1 .1) (a .1))))
-
-add-k : tie.Need-add-k Inv-loop μ-loop
-add-k c = search needs
-
-loop-less : tie.Need-loop-less Inv-loop μ-loop
-loop-less c = search needs
 
 loop-again : tie.Need-loop-again Inv-loop μ-loop
 loop-again c =
@@ -54,10 +42,10 @@ fill-spec =
     Inv-loop
     μ-loop
     loop-holds
-    sub-row
-    element-copy-out-fill-row
+    (λ c. search needs)
+    (λ c. search needs)
     fill-row-requires
-    add-k
-    loop-less
+    (λ c. search needs)
+    (λ c. search needs)
     loop-again
     returns)

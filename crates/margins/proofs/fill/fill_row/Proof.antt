@@ -46,12 +46,6 @@ element-write-lack c = column (c .before)
 still-lacking-requires : tie.Need-still-lacking-requires Inv-loop μ-loop
 still-lacking-requires c κs = (column (c .before), c .before .augment .ensures .done (column (c .before)) .0)
 
-add-k : tie.Need-add-k Inv-loop μ-loop
-add-k c = search needs
-
-loop-less : tie.Need-loop-less Inv-loop μ-loop
-loop-less c = search needs
-
 loop-again : tie.Need-loop-again Inv-loop μ-loop
 loop-again c =
     let h = column (c .before .before) in
@@ -74,7 +68,7 @@ fill-row-spec =
     sub-left
     element-write-lack
     still-lacking-requires
-    add-k
-    loop-less
+    (λ c. search needs)
+    (λ c. search needs)
     loop-again
     returns)

@@ -3,9 +3,6 @@ use Rattle.margins.proofs.fill.still_lacking.Statement.{statement}
 use Rattle.margins.proofs.fill.still_lacking.Tie as tie
 use Rattle.margins.proofs.Fills.{lacking-none, lacking-some}
 
-without-requires : tie.Need-without-requires
-without-requires c κs = search needs
-
 returns : tie.Need-returns
 returns c = search (needs, lacking-none)
 
@@ -13,4 +10,4 @@ returns-2 : tie.Need-returns-2
 returns-2 c = search (needs, lacking-some)
 
 pub still-lacking-spec : {M : Type 1} → statement M
-still-lacking-spec = tie.close (tie.spec without-requires returns returns-2)
+still-lacking-spec = tie.close (tie.spec (λ c κs. search needs) returns returns-2)

@@ -4,7 +4,7 @@ use borrow.Author.Needs.{needs}
 use native.Mathlib.Omega.{arith}
 use mathlib.Core.Path.{refl}
 use Prim.Native.Nat.{_*_, _-_, _≤_}
-use Rattle.margins.specs.Grid.{BytesOf}
+use Rattle.margins.specs.Board.{BytesOf}
 use Rattle.margins.proofs.FirstMatrices.{bytes-as}
 
 abbrev Inv-loop : tie.InvT-loop
@@ -21,12 +21,6 @@ write-row-requires c κs =
     let l = c .before .before .loop in
     (search needs, (l .inv .1, λ q h. c .before .before .before .pre (l .p) q (omega arith) h))
 
-add-p : tie.Need-add-p Inv-loop μ-loop
-add-p c = search needs
-
-loop-less : tie.Need-loop-less Inv-loop μ-loop
-loop-less c = search needs
-
 loop-again : tie.Need-loop-again Inv-loop μ-loop
 loop-again c = (search needs, bytes-as (c .write-row .ensures) (omega arith))
 
@@ -36,4 +30,4 @@ returns c = bytes-as (c .before .loop .inv .1) (omega arith)
 pub bytes-of-spec : {M : Type 1} → statement M
 bytes-of-spec =
     tie.close
-    (tie.spec Inv-loop μ-loop loop-holds write-row-requires add-p loop-less loop-again returns)
+    (tie.spec Inv-loop μ-loop loop-holds write-row-requires (λ c. search needs) (λ c. search needs) loop-again returns)

@@ -6,8 +6,8 @@ use mathlib.Core.Path.{_≡_}
 use Prim.Native.Nat.{ℕ, _-_, _≤_, _<_}
 use lib.ListN.{length, length-set}
 use Rattle.margins.specs.Matrix.{at}
-use Rattle.margins.specs.Set.{on, has}
-use Rattle.table.proofs.Lists.{each-more}
+use Rattle.sets.specs.Set.{on, has}
+use Rattle.base.proofs.Lists.{each-more}
 
 abbrev Inv-loop : tie.InvT-loop
 Inv-loop cap up₀ p₀ up p = (p ≤ 13) × ((length up ≡ 13) × ((i : ℕ) → i < p → (q : ℕ) → q < 13 → has up i q ≡ at cap i q))
@@ -18,23 +18,8 @@ abbrev μ-loop : tie.MeasureT-loop
 loop-holds : tie.Need-loop-holds Inv-loop μ-loop
 loop-holds c = (omega arith, (c .pre .1, λ i h. absurd (omega arith)))
 
-mul-nonzero : tie.Need-mul-nonzero Inv-loop μ-loop
-mul-nonzero c = search needs
-
 nonzero-requires : tie.Need-nonzero-requires Inv-loop μ-loop
 nonzero-requires c κs = omega (arith, c .before .before .before .pre .0 .len)
-
-mul-up : tie.Need-mul-up Inv-loop μ-loop
-mul-up c = search needs
-
-element-write-up : tie.Need-element-write-up Inv-loop μ-loop
-element-write-up c = search needs
-
-add-p : tie.Need-add-p Inv-loop μ-loop
-add-p c = search needs
-
-loop-less : tie.Need-loop-less Inv-loop μ-loop
-loop-less c = search needs
 
 loop-again : tie.Need-loop-again Inv-loop μ-loop
 loop-again c =
@@ -58,11 +43,11 @@ free-places-spec =
     Inv-loop
     μ-loop
     loop-holds
-    mul-nonzero
+    (λ c. search needs)
     nonzero-requires
-    mul-up
-    element-write-up
-    add-p
-    loop-less
+    (λ c. search needs)
+    (λ c. search needs)
+    (λ c. search needs)
+    (λ c. search needs)
     loop-again
     returns)

@@ -4,9 +4,6 @@ use native.Mathlib.Omega.{arith}
 use Rattle.margins.proofs.search.augment.Statement.{statement}
 use Rattle.margins.proofs.search.augment.Tie as tie
 
-reach-requires : tie.Need-reach-requires
-reach-requires c κs = search needs
-
 flip-path-requires : tie.Need-flip-path-requires
 flip-path-requires c κs = (c .before .before .before .before .before .before .before .before .before .before .pre .0, c .before .before .before .before .before .reach .ensures .found (c .before .before .before .before .if1 .taken) .1)
 
@@ -29,4 +26,4 @@ returns-2 c =
     }
 
 pub augment-spec : {M : Type 1} → statement M
-augment-spec = tie.close (tie.spec reach-requires flip-path-requires returns returns-2)
+augment-spec = tie.close (tie.spec (λ c κs. search needs) flip-path-requires returns returns-2)

@@ -18,12 +18,6 @@ abbrev μ-loop : tie.MeasureT-loop
 loop-holds : tie.Need-loop-holds Inv-loop μ-loop
 loop-holds c = search (needs, at-start)
 
-mul-pick : tie.Need-mul-pick Inv-loop μ-loop
-mul-pick c = search needs
-
-element-copy-out-pick : tie.Need-element-copy-out-pick Inv-loop μ-loop
-element-copy-out-pick c = search needs
-
 pick-requires : tie.Need-pick-requires Inv-loop μ-loop
 pick-requires c κs = search (needs, col-via, rows-below)
 
@@ -32,15 +26,6 @@ flip-requires c κs = search (needs, col-free)
 
 returns : tie.Need-returns Inv-loop μ-loop
 returns c = arrived (raised (c .before .before .before .before .before .before .before .loop .inv) (c .before .before .before .before .pick .ensures) (c .before .flip .ensures)) (c .if1 .taken)
-
-sub-level : tie.Need-sub-level Inv-loop μ-loop
-sub-level c = search needs
-
-mul-pick-2 : tie.Need-mul-pick-2 Inv-loop μ-loop
-mul-pick-2 c = search needs
-
-element-copy-out-pick-2 : tie.Need-element-copy-out-pick-2 Inv-loop μ-loop
-element-copy-out-pick-2 c = search needs
 
 pick-requires-2 : tie.Need-pick-requires-2 Inv-loop μ-loop
 pick-requires-2 c κs =
@@ -55,9 +40,6 @@ flip-requires-2 c κs =
     let d = c .before .before .pick2 .ensures in
     ((a .way .down-len, a .way .up-len), (d .below, (a .below, (d .linked, row-free a pos d))))
 
-loop-less : tie.Need-loop-less Inv-loop μ-loop
-loop-less c = search needs
-
 loop-again : tie.Need-loop-again Inv-loop μ-loop
 loop-again c =
     let a = raised (c .before .before .before .before .before .before .before .before .before .before .before .before .before .loop .inv) (c .before .before .before .before .before .before .before .before .before .before .pick .ensures) (c .before .before .before .before .before .before .before .flip .ensures) in
@@ -71,15 +53,15 @@ flip-path-spec =
     Inv-loop
     μ-loop
     loop-holds
-    mul-pick
-    element-copy-out-pick
+    (λ c. search needs)
+    (λ c. search needs)
     pick-requires
     flip-requires
     returns
-    sub-level
-    mul-pick-2
-    element-copy-out-pick-2
+    (λ c. search needs)
+    (λ c. search needs)
+    (λ c. search needs)
     pick-requires-2
     flip-requires-2
-    loop-less
+    (λ c. search needs)
     loop-again)

@@ -10,35 +10,14 @@ Inv-loop up down ends start rows₀ cols₀ front₀ rows-left₀ cols-left₀ l
 abbrev μ-loop : tie.MeasureT-loop
 μ-loop up down ends start rows₀ cols₀ front₀ rows-left₀ cols-left₀ level₀ rows cols front rows-left cols-left level = 13 - level
 
-single-requires : tie.Need-single-requires Inv-loop μ-loop
-single-requires c κs = search needs
-
 minus-requires : tie.Need-minus-requires Inv-loop μ-loop
 minus-requires c κs = search (needs, one-le)
-
-element-write-rows : tie.Need-element-write-rows Inv-loop μ-loop
-element-write-rows c = search needs
 
 loop-holds : tie.Need-loop-holds Inv-loop μ-loop
 loop-holds c = search (needs, progress-start)
 
-union-of-requires : tie.Need-union-of-requires Inv-loop μ-loop
-union-of-requires c κs = search needs
-
-meet-requires : tie.Need-meet-requires Inv-loop μ-loop
-meet-requires c κs = search needs
-
-meet-requires-2 : tie.Need-meet-requires-2 Inv-loop μ-loop
-meet-requires-2 c κs = search needs
-
-some-requires : tie.Need-some-requires Inv-loop μ-loop
-some-requires c κs = search needs
-
 returns : tie.Need-returns Inv-loop μ-loop
 returns c = search (needs, progress-found)
-
-nowhere-requires : tie.Need-nowhere-requires Inv-loop μ-loop
-nowhere-requires c κs = search needs
 
 returns-2 : tie.Need-returns-2 Inv-loop μ-loop
 returns-2 c = search (needs, progress-shut)
@@ -46,41 +25,11 @@ returns-2 c = search (needs, progress-shut)
 minus-requires-2 : tie.Need-minus-requires-2 Inv-loop μ-loop
 minus-requires-2 c κs = search (needs, meet-sub)
 
-union-of-requires-2 : tie.Need-union-of-requires-2 Inv-loop μ-loop
-union-of-requires-2 c κs = search needs
-
-meet-requires-3 : tie.Need-meet-requires-3 Inv-loop μ-loop
-meet-requires-3 c κs = search needs
-
 minus-requires-3 : tie.Need-minus-requires-3 Inv-loop μ-loop
 minus-requires-3 c κs = search (needs, meet-sub)
 
-mul-cols : tie.Need-mul-cols Inv-loop μ-loop
-mul-cols c = search needs
-
-element-write-cols : tie.Need-element-write-cols Inv-loop μ-loop
-element-write-cols c = search needs
-
-add-rows : tie.Need-add-rows Inv-loop μ-loop
-add-rows c = search needs
-
-mul-rows : tie.Need-mul-rows Inv-loop μ-loop
-mul-rows c = search needs
-
-element-write-rows-2 : tie.Need-element-write-rows-2 Inv-loop μ-loop
-element-write-rows-2 c = search needs
-
-add-level : tie.Need-add-level Inv-loop μ-loop
-add-level c = search needs
-
-loop-less : tie.Need-loop-less Inv-loop μ-loop
-loop-less c = search needs
-
 loop-again : tie.Need-loop-again Inv-loop μ-loop
 loop-again c = search (needs, progress-step)
-
-nowhere-requires-2 : tie.Need-nowhere-requires-2 Inv-loop μ-loop
-nowhere-requires-2 c κs = search needs
 
 returns-3 : tie.Need-returns-3 Inv-loop μ-loop
 returns-3 c = search (needs, progress-full)
@@ -91,28 +40,28 @@ reach-spec =
     (tie.spec
     Inv-loop
     μ-loop
-    single-requires
+    (λ c κs. search needs)
     minus-requires
-    element-write-rows
+    (λ c. search needs)
     loop-holds
-    union-of-requires
-    meet-requires
-    meet-requires-2
-    some-requires
+    (λ c κs. search needs)
+    (λ c κs. search needs)
+    (λ c κs. search needs)
+    (λ c κs. search needs)
     returns
-    nowhere-requires
+    (λ c κs. search needs)
     returns-2
     minus-requires-2
-    union-of-requires-2
-    meet-requires-3
+    (λ c κs. search needs)
+    (λ c κs. search needs)
     minus-requires-3
-    mul-cols
-    element-write-cols
-    add-rows
-    mul-rows
-    element-write-rows-2
-    add-level
-    loop-less
+    (λ c. search needs)
+    (λ c. search needs)
+    (λ c. search needs)
+    (λ c. search needs)
+    (λ c. search needs)
+    (λ c. search needs)
+    (λ c. search needs)
     loop-again
-    nowhere-requires-2
+    (λ c κs. search needs)
     returns-3)

@@ -12,9 +12,6 @@ add-result c = next-fits _ _ _ (c .before .pre)
 sub-result : tie.Need-sub-result
 sub-result c = search (needs, above-whole)
 
-add-result-2 : tie.Need-add-result-2
-add-result-2 c = search needs
-
 sub-result-2 : tie.Need-sub-result-2
 sub-result-2 c = search (needs, below-whole)
 
@@ -27,4 +24,4 @@ returns-2 c = search (needs, limit-above)
 pub limit-spec : {M : Type 1} → statement M
 limit-spec =
     tie.close
-    (tie.spec mul-whole add-result sub-result add-result-2 sub-result-2 returns returns-2)
+    (tie.spec mul-whole add-result sub-result (λ c. search needs) sub-result-2 returns returns-2)

@@ -13,35 +13,11 @@ abbrev μ-loop : tie.MeasureT-loop
 loop-holds : tie.Need-loop-holds Inv-loop μ-loop
 loop-holds c = search (needs, lost-none)
 
-mul-e : tie.Need-mul-e Inv-loop μ-loop
-mul-e c = search needs
-
-element-copy-out-e : tie.Need-element-copy-out-e Inv-loop μ-loop
-element-copy-out-e c = search needs
-
-mul-e-2 : tie.Need-mul-e-2 Inv-loop μ-loop
-mul-e-2 c = search needs
-
-element-copy-out-e-2 : tie.Need-element-copy-out-e-2 Inv-loop μ-loop
-element-copy-out-e-2 c = search needs
-
 mul-e-3 : tie.Need-mul-e-3 Inv-loop μ-loop
 mul-e-3 c = search (needs, lost-product)
 
 sub-e : tie.Need-sub-e Inv-loop μ-loop
 sub-e c = search (needs, lost-enough)
-
-mul-e-4 : tie.Need-mul-e-4 Inv-loop μ-loop
-mul-e-4 c = search needs
-
-element-write-e : tie.Need-element-write-e Inv-loop μ-loop
-element-write-e c = search needs
-
-add-k : tie.Need-add-k Inv-loop μ-loop
-add-k c = search needs
-
-loop-less : tie.Need-loop-less Inv-loop μ-loop
-loop-less c = search needs
 
 loop-again : tie.Need-loop-again Inv-loop μ-loop
 loop-again c = search (needs, lost-more)
@@ -56,15 +32,15 @@ lose-spec =
     Inv-loop
     μ-loop
     loop-holds
-    mul-e
-    element-copy-out-e
-    mul-e-2
-    element-copy-out-e-2
+    (λ c. search needs)
+    (λ c. search needs)
+    (λ c. search needs)
+    (λ c. search needs)
     mul-e-3
     sub-e
-    mul-e-4
-    element-write-e
-    add-k
-    loop-less
+    (λ c. search needs)
+    (λ c. search needs)
+    (λ c. search needs)
+    (λ c. search needs)
     loop-again
     returns)

@@ -11,26 +11,8 @@ Inv-loop l x₀ k₀ x k = (k ≤ 169) × SmallestTo l x k
 abbrev μ-loop : tie.MeasureT-loop
 μ-loop l x₀ k₀ x k = 169 - k
 
-element-copy-out-x : tie.Need-element-copy-out-x Inv-loop μ-loop
-element-copy-out-x c = search needs
-
 loop-holds : tie.Need-loop-holds Inv-loop μ-loop
 loop-holds c = search (needs, smallest-one)
-
-mul-smaller : tie.Need-mul-smaller Inv-loop μ-loop
-mul-smaller c = search needs
-
-element-copy-out-smaller : tie.Need-element-copy-out-smaller Inv-loop μ-loop
-element-copy-out-smaller c = search needs
-
-smaller-requires : tie.Need-smaller-requires Inv-loop μ-loop
-smaller-requires c κs = search needs
-
-add-k : tie.Need-add-k Inv-loop μ-loop
-add-k c = search needs
-
-loop-less : tie.Need-loop-less Inv-loop μ-loop
-loop-less c = search needs
 
 loop-again : tie.Need-loop-again Inv-loop μ-loop
 loop-again c = search (needs, smallest-more)
@@ -44,12 +26,12 @@ smallest-spec =
     (tie.spec
     Inv-loop
     μ-loop
-    element-copy-out-x
+    (λ c. search needs)
     loop-holds
-    mul-smaller
-    element-copy-out-smaller
-    smaller-requires
-    add-k
-    loop-less
+    (λ c. search needs)
+    (λ c. search needs)
+    (λ c κs. search needs)
+    (λ c. search needs)
+    (λ c. search needs)
     loop-again
     returns)

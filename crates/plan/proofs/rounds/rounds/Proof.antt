@@ -1,111 +1,60 @@
 use mathlib.Core.Path.{_≡_, refl}
 use native.Mathlib.Omega.{arith}
-use Rattle.plan.specs.Grids.{Held}
-use Rattle.plan.proofs.HeldRounds.{held-start, weight-small, held-grid, held-room, start-fits, x-small, x-most, x-some, array-ready, held-step}
+use Rattle.plan.specs.Grids.{Gathered}
+use Rattle.plan.proofs.Gathering.{gathered-start, entries-left, weight-left, weight-fits, weights-scaled, weights-room, start-fits, array-ready, weight-most, array-counted, less-left, gathered-step}
 use borrow.Author.Needs.{needs}
 use Rattle.plan.proofs.rounds.rounds.Statement.{statement}
 use Rattle.plan.proofs.rounds.rounds.Tie as tie
 
 abbrev Inv-loop : tie.InvT-loop
-Inv-loop rows columns denominator cells weights₀ counts₀ e₀ w₀ k₀ weights counts e w k = Held rows columns denominator cells w k e weights counts
+Inv-loop t cells weights₀ counts₀ e₀ w₀ k₀ weights counts e w k = Gathered (t .rows) (t .columns) (t .denominator) cells w k e weights counts
 
 abbrev μ-loop : tie.MeasureT-loop
-μ-loop rows columns denominator cells weights₀ counts₀ e₀ w₀ k₀ weights counts e w k = w
-
-entries-requires : tie.Need-entries-requires Inv-loop μ-loop
-entries-requires c κs = search needs
+μ-loop t cells weights₀ counts₀ e₀ w₀ k₀ weights counts e w k = w
 
 loop-holds : tie.Need-loop-holds Inv-loop μ-loop
-loop-holds c =
-    let s = c .before .before .before .before in
-    held-start _ _ _ (s .pre .0) (s .pre .1 .0) (s .pre .1 .1) (c .entries .ensures)
+loop-holds c = search (needs, gathered-start)
 
 one-round-requires : tie.Need-one-round-requires Inv-loop μ-loop
 one-round-requires c κs =
     let turn = c .before .before in
     let o = turn .before .loop .inv in
-    let t = turn .before .before .before .before .before .before .pre .0 in
-    (held-grid t o, ((turn .loop-test .taken, weight-small t o), refl))
+    record { grid = entries-left o; some = turn .loop-test .taken; small = weight-left o; len = refl }
 
-narrow-requires : tie.Need-narrow-requires Inv-loop μ-loop
-narrow-requires c κs =
-    let turn = c .before .before .before in
-    let o = turn .before .loop .inv in
-    let t = turn .before .before .before .before .before .before .pre .0 in
-    omega (arith, x-small t o (turn .loop-test .taken) (c .one-round .ensures), weight-small t o)
+u64-to-u32-requires : tie.Need-u64-to-u32-requires Inv-loop μ-loop
+u64-to-u32-requires c κs = search (needs, weight-fits)
 
 mul-weights : tie.Need-mul-weights Inv-loop μ-loop
-mul-weights c =
-    let turn = c .before .before .before .before in
-    let o = turn .before .loop .inv in
-    let t = turn .before .before .before .before .before .before .pre .0 in
-    record { fits = omega (arith, held-room t o (turn .loop-test .taken)) }
+mul-weights c = search (needs, weights-scaled)
 
 slice-write-weights : tie.Need-slice-write-weights Inv-loop μ-loop
-slice-write-weights c =
-    let turn = c .before .before .before .before in
-    let o = turn .before .loop .inv in
-    let t = turn .before .before .before .before .before .before .pre .0 in
-    omega (arith, held-room t o (turn .loop-test .taken), o .weights-len)
-
-mul-write-cells : tie.Need-mul-write-cells Inv-loop μ-loop
-mul-write-cells c = search needs
+slice-write-weights c = search (needs, weights-room)
 
 mul-write-cells-2 : tie.Need-mul-write-cells-2 Inv-loop μ-loop
 mul-write-cells-2 c =
-    let turn = c .before .before .before .before .before .before in
-    let o = turn .before .loop .inv in
-    let t = turn .before .before .before .before .before .before .pre .0 in
-    start-fits t o (turn .loop-test .taken)
+    let turn = c .before .before .before .before .before .before .before in
+    start-fits (turn .before .loop .inv) (turn .loop-test .taken)
 
 write-cells-requires : tie.Need-write-cells-requires Inv-loop μ-loop
-write-cells-requires c κs =
-    let turn = c .before .before .before .before .before .before in
-    let o = turn .before .loop .inv in
-    let t = turn .before .before .before .before .before .before .pre .0 in
-    array-ready t o (turn .loop-test .taken) (c .before .before .before .one-round .ensures)
+write-cells-requires c κs = search (needs, array-ready)
 
 sub-w : tie.Need-sub-w Inv-loop μ-loop
-sub-w c =
-    let turn = c .before .before .before .before .before .before .before .before .before in
-    let o = turn .before .loop .inv in
-    let t = turn .before .before .before .before .before .before .pre .0 in
-    x-most t o (turn .loop-test .taken) (c .before .before .before .before .before .before .one-round .ensures)
+sub-w c = search (needs, weight-most)
 
 add-k : tie.Need-add-k Inv-loop μ-loop
-add-k c =
-    let turn = c .before .before .before .before .before .before .before .before .before in
-    let o = turn .before .loop .inv in
-    let t = turn .before .before .before .before .before .before .pre .0 in
-    record { fits = omega (arith, held-room t o (turn .loop-test .taken)) }
+add-k c = search (needs, array-counted)
 
 loop-less : tie.Need-loop-less Inv-loop μ-loop
-loop-less c =
-    let turn = c .before .before .before .before .before .before .before .before .before in
-    let o = turn .before .loop .inv in
-    let t = turn .before .before .before .before .before .before .pre .0 in
-    let u = c .before .before .before .before .before .before .one-round .ensures in
-    omega (arith, x-some t o (turn .loop-test .taken) u, x-most t o (turn .loop-test .taken) u)
+loop-less c = search (needs, less-left)
 
 loop-again : tie.Need-loop-again Inv-loop μ-loop
-loop-again c =
-    let turn = c .before .before .before .before .before .before .before .before .before in
-    let o = turn .before .loop .inv in
-    let t = turn .before .before .before .before .before .before .pre .0 in
-    let a = c .before .before .before .before .before in
-    held-step t o (turn .loop-test .taken) (a .before .one-round .ensures) (a .narrow .ensures) (c .before .before .write-cells .ensures)
-
-same-length : tie.Need-same-length Inv-loop μ-loop
-same-length c = search needs
-
-same-length-2 : tie.Need-same-length-2 Inv-loop μ-loop
-same-length-2 c = search needs
+loop-again c = search (needs, gathered-step)
 
 returns : tie.Need-returns Inv-loop μ-loop
 returns c =
     let l = c .before .loop in
     let z : l .w ≡ 0 = omega arith in
-    record { e = l .e; held = rw z at (l .inv) }
+    record { e = l .e; rounds = rw z at (l .inv) }
 
 pub rounds-spec : {M : Type 1} → statement M
 rounds-spec =
@@ -113,19 +62,19 @@ rounds-spec =
     (tie.spec
     Inv-loop
     μ-loop
-    entries-requires
+    (λ c κs. search needs)
     loop-holds
     one-round-requires
-    narrow-requires
+    u64-to-u32-requires
     mul-weights
     slice-write-weights
-    mul-write-cells
+    (λ c. search needs)
     mul-write-cells-2
     write-cells-requires
     sub-w
     add-k
     loop-less
     loop-again
-    same-length
-    same-length-2
+    (λ c. search needs)
+    (λ c. search needs)
     returns)

@@ -1,16 +1,15 @@
 use Prim.Native.Nat.{_≤_, _-_}
-use lib.ListN.{getD}
-use Rattle.table.proofs.SumLoops.{added-none}
-use Rattle.rounding.proofs.PartLoops.{LineTo, line-scaled, line-inside, line-step, line-one, wholes-more, wholes-all}
+use Rattle.base.proofs.SumLoops.{added-none}
+use Rattle.rounding.proofs.PartLoops.{LineTo, line-scaled, line-inside, line-step, line-fits, line-more, line-all}
 use borrow.Author.Needs.{needs}
 use Rattle.rounding.proofs.needs.line.Statement.{statement}
 use Rattle.rounding.proofs.needs.line.Tie as tie
 
 abbrev Inv-loop : tie.InvT-loop
-Inv-loop f cap start step s₀ at₀ k₀ s at k = (k ≤ 12) × LineTo (λ i. getD f i 0) start step k s at
+Inv-loop l start step s₀ at₀ k₀ s at k = (k ≤ 12) × LineTo l start step k s at
 
 abbrev μ-loop : tie.MeasureT-loop
-μ-loop f cap start step s₀ at₀ k₀ s at k = 12 - k
+μ-loop l start step s₀ at₀ k₀ s at k = 12 - k
 
 loop-holds : tie.Need-loop-holds Inv-loop μ-loop
 loop-holds c = search (needs, added-none)
@@ -22,22 +21,16 @@ element-copy-out-s : tie.Need-element-copy-out-s Inv-loop μ-loop
 element-copy-out-s c = search (needs, line-inside)
 
 add-s : tie.Need-add-s Inv-loop μ-loop
-add-s c = search (needs, line-one)
+add-s c = search (needs, line-fits)
 
 add-at : tie.Need-add-at Inv-loop μ-loop
 add-at c = search (needs, line-step)
 
-add-k : tie.Need-add-k Inv-loop μ-loop
-add-k c = search needs
-
-loop-less : tie.Need-loop-less Inv-loop μ-loop
-loop-less c = search needs
-
 loop-again : tie.Need-loop-again Inv-loop μ-loop
-loop-again c = search (needs, wholes-more)
+loop-again c = search (needs, line-more)
 
 returns : tie.Need-returns Inv-loop μ-loop
-returns c = wholes-all (c .before .before .args .f .now) (c .before .loop .inv .1) (c .before .loop .inv .0) (c .loop-test .left)
+returns c = line-all (c .before .before .args .l .now) (c .before .loop .inv .1) (c .before .loop .inv .0) (c .loop-test .left)
 
 pub line-spec : {M : Type 1} → statement M
 line-spec =
@@ -50,7 +43,7 @@ line-spec =
     element-copy-out-s
     add-s
     add-at
-    add-k
-    loop-less
+    (λ c. search needs)
+    (λ c. search needs)
     loop-again
     returns)

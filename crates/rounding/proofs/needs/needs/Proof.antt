@@ -6,10 +6,10 @@ use Rattle.rounding.proofs.needs.needs.Statement.{statement}
 use Rattle.rounding.proofs.needs.needs.Tie as tie
 
 abbrev Inv-loop : tie.InvT-loop
-Inv-loop f cap next step n₀ start₀ i₀ n start i = (i ≤ 12) × NeedsTo f cap next step n start i
+Inv-loop low high next step n₀ start₀ i₀ n start i = (i ≤ 12) × NeedsTo low high next step n start i
 
 abbrev μ-loop : tie.MeasureT-loop
-μ-loop f cap next step n₀ start₀ i₀ n start i = 12 - i
+μ-loop low high next step n₀ start₀ i₀ n start i = 12 - i
 
 loop-holds : tie.Need-loop-holds Inv-loop μ-loop
 loop-holds c = search (needs, needs-none)
@@ -17,26 +17,14 @@ loop-holds c = search (needs, needs-none)
 need-cells-requires : tie.Need-need-cells-requires Inv-loop μ-loop
 need-cells-requires c κs = search (needs, needs-fit)
 
-array-write-n : tie.Need-array-write-n Inv-loop μ-loop
-array-write-n c = search needs
-
 add-start : tie.Need-add-start Inv-loop μ-loop
 add-start c = search (needs, needs-next)
-
-add-i : tie.Need-add-i Inv-loop μ-loop
-add-i c = search needs
-
-loop-less : tie.Need-loop-less Inv-loop μ-loop
-loop-less c = search needs
 
 loop-again : tie.Need-loop-again Inv-loop μ-loop
 loop-again c = search (needs, needs-more)
 
 need-totals-requires : tie.Need-need-totals-requires Inv-loop μ-loop
 need-totals-requires c κs = needs-last (c .before .loop .inv .1) (c .before .before .pre) (omega arith)
-
-array-write-n-2 : tie.Need-array-write-n-2 Inv-loop μ-loop
-array-write-n-2 c = search needs
 
 returns : tie.Need-returns Inv-loop μ-loop
 returns c = needs-all (c .before .before .loop .inv .1) _ (omega arith) (c .need-totals .ensures)
@@ -49,11 +37,11 @@ needs-spec =
     μ-loop
     loop-holds
     need-cells-requires
-    array-write-n
+    (λ c. search needs)
     add-start
-    add-i
-    loop-less
+    (λ c. search needs)
+    (λ c. search needs)
     loop-again
     need-totals-requires
-    array-write-n-2
+    (λ c. search needs)
     returns)

@@ -14,9 +14,6 @@ abbrev μ-loop : tie.MeasureT-loop
 loop-holds : tie.Need-loop-holds Inv-loop μ-loop
 loop-holds c = search (needs, rows-none)
 
-mul-write-row : tie.Need-mul-write-row Inv-loop μ-loop
-mul-write-row c = search needs
-
 write-row-requires : tie.Need-write-row-requires Inv-loop μ-loop
 write-row-requires c κs = search (needs, rows-ready)
 
@@ -25,17 +22,8 @@ add-next c =
     let turn = c .before .before .before .before in
     record { fits = omega (arith, rows-bound (turn .before .loop .inv .1) (turn .before .before .before .pre) (turn .loop-test .taken)) }
 
-add-i : tie.Need-add-i Inv-loop μ-loop
-add-i c = search needs
-
-loop-less : tie.Need-loop-less Inv-loop μ-loop
-loop-less c = search needs
-
 loop-again : tie.Need-loop-again Inv-loop μ-loop
 loop-again c = search (needs, rows-more)
-
-same-length : tie.Need-same-length Inv-loop μ-loop
-same-length c = search needs
 
 returns : tie.Need-returns Inv-loop μ-loop
 returns c = rows-all (c .before .loop .inv .1) (c .before .loop .inv .0) (c .loop-test .left)
@@ -47,11 +35,11 @@ write-cells-spec =
     Inv-loop
     μ-loop
     loop-holds
-    mul-write-row
+    (λ c. search needs)
     write-row-requires
     add-next
-    add-i
-    loop-less
+    (λ c. search needs)
+    (λ c. search needs)
     loop-again
-    same-length
+    (λ c. search needs)
     returns)

@@ -4,20 +4,11 @@ use borrow.Author.Needs.{needs}
 use Rattle.table.proofs.check.check.Statement.{statement}
 use Rattle.table.proofs.check.check.Tie as tie
 
-up-to-requires : tie.Need-up-to-requires
-up-to-requires c κs = search needs
-
 returns : tie.Need-returns
 returns c = search (needs, bad-rows)
 
-up-to-requires-2 : tie.Need-up-to-requires-2
-up-to-requires-2 c κs = search needs
-
 returns-2 : tie.Need-returns-2
 returns-2 c = search (needs, bad-columns)
-
-up-to-requires-3 : tie.Need-up-to-requires-3
-up-to-requires-3 c κs = search needs
 
 returns-3 : tie.Need-returns-3
 returns-3 c = search (needs, bad-denominator)
@@ -56,11 +47,11 @@ pub check-spec : {M : Type 1} → statement M
 check-spec =
     tie.close
     (tie.spec
-    up-to-requires
+    (λ c κs. search needs)
     returns
-    up-to-requires-2
+    (λ c κs. search needs)
     returns-2
-    up-to-requires-3
+    (λ c κs. search needs)
     returns-3
     mul-if4
     returns-4

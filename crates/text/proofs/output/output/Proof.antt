@@ -5,28 +5,10 @@ use borrow.Author.Needs.{needs}
 use Rattle.text.proofs.output.output.Statement.{statement}
 use Rattle.text.proofs.output.output.Tie as tie
 
-parse-requires : tie.Need-parse-requires
-parse-requires c κs = search needs
-
-print-text-refusal-requires : tie.Need-print-text-refusal-requires
-print-text-refusal-requires c κs = search needs
-
-same-length : tie.Need-same-length
-same-length c = search needs
-
 returns : tie.Need-returns
 returns c =
     let m = c .before .before .before .before in
     text-refused _ _ (m .before .before .parse .ensures) (not-true _ (m .if1 .taken)) _ _ _ (c .before .before .print-text-refusal .ensures)
-
-array-read-output-table : tie.Need-array-read-output-table
-array-read-output-table c = search needs
-
-array-read-output-table-2 : tie.Need-array-read-output-table-2
-array-read-output-table-2 c = search needs
-
-array-read-output-table-3 : tie.Need-array-read-output-table-3
-array-read-output-table-3 c = search needs
 
 sub-output-table : tie.Need-sub-output-table
 sub-output-table c =
@@ -46,12 +28,6 @@ part-output-table-end c =
     let l = numbers-accepted _ _ (m .before .before .parse .ensures) (not-false _ (m .if1 .left)) in
     l .inside
 
-output-table-requires : tie.Need-output-table-requires
-output-table-requires c κs = search needs
-
-same-length-2 : tie.Need-same-length-2
-same-length-2 c = search needs
-
 returns-2 : tie.Need-returns-2
 returns-2 c =
     let m = c .before .before .before .before .before .before .before in
@@ -62,16 +38,16 @@ pub output-spec : {M : Type 1} → statement M
 output-spec =
     tie.close
     (tie.spec
-    parse-requires
-    print-text-refusal-requires
-    same-length
+    (λ c κs. search needs)
+    (λ c κs. search needs)
+    (λ c. search needs)
     returns
-    array-read-output-table
-    array-read-output-table-2
-    array-read-output-table-3
+    (λ c. search needs)
+    (λ c. search needs)
+    (λ c. search needs)
     sub-output-table
     part-output-table-start
     part-output-table-end
-    output-table-requires
-    same-length-2
+    (λ c κs. search needs)
+    (λ c. search needs)
     returns-2)

@@ -12,20 +12,11 @@ Inv-loop text numbers₀ count₀ reading₀ i₀ numbers count reading i = Scan
 abbrev μ-loop : tie.MeasureT-loop
 μ-loop text numbers₀ count₀ reading₀ i₀ numbers count reading i = length text - i
 
-refused-requires : tie.Need-refused-requires Inv-loop μ-loop
-refused-requires c κs = search needs
-
 returns : tie.Need-returns Inv-loop μ-loop
 returns c = too-long _ _ (c .refused .ensures) (search needs)
 
 loop-holds : tie.Need-loop-holds Inv-loop μ-loop
 loop-holds c = search (needs, scanned-none)
-
-shared-slice-read-b : tie.Need-shared-slice-read-b Inv-loop μ-loop
-shared-slice-read-b c = search needs
-
-is-digit-requires : tie.Need-is-digit-requires Inv-loop μ-loop
-is-digit-requires c κs = search needs
 
 mul-with-digit : tie.Need-mul-with-digit Inv-loop μ-loop
 mul-with-digit c = search (needs, scanned-scaled)
@@ -36,17 +27,11 @@ array-read-with-digit c = search (needs, scanned-room)
 with-digit-requires : tie.Need-with-digit-requires Inv-loop μ-loop
 with-digit-requires c κs = search (needs, digit-test)
 
-refused-requires-2 : tie.Need-refused-requires-2 Inv-loop μ-loop
-refused-requires-2 c κs = search needs
-
 returns-2 : tie.Need-returns-2 Inv-loop μ-loop
 returns-2 c =
     let test = c .before .before .before .before in
     let turn = test .before .before in
     too-large (turn .before .loop .inv) (turn .loop-test .taken) _ (test .is-digit .ensures) (c .before .before .before .if2 .taken) _ (c .before .before .with-digit .ensures) _ (c .refused2 .ensures) (search needs)
-
-cast-numbers : tie.Need-cast-numbers Inv-loop μ-loop
-cast-numbers c = search needs
 
 mul-numbers : tie.Need-mul-numbers Inv-loop μ-loop
 mul-numbers c = search (needs, scanned-scaled)
@@ -54,26 +39,11 @@ mul-numbers c = search (needs, scanned-scaled)
 array-write-numbers : tie.Need-array-write-numbers Inv-loop μ-loop
 array-write-numbers c = search (needs, scanned-room)
 
-is-gap-requires : tie.Need-is-gap-requires Inv-loop μ-loop
-is-gap-requires c κs = search needs
-
-refused-requires-3 : tie.Need-refused-requires-3 Inv-loop μ-loop
-refused-requires-3 c κs = search needs
-
 returns-3 : tie.Need-returns-3 Inv-loop μ-loop
 returns-3 c = search (needs, other-byte)
 
-one-if-requires : tie.Need-one-if-requires Inv-loop μ-loop
-one-if-requires c κs = search needs
-
 add-count : tie.Need-add-count Inv-loop μ-loop
 add-count c = search (needs, count-fits)
-
-add-i : tie.Need-add-i Inv-loop μ-loop
-add-i c = search needs
-
-loop-less : tie.Need-loop-less Inv-loop μ-loop
-loop-less c = search needs
 
 loop-again : tie.Need-loop-again Inv-loop μ-loop
 loop-again c =
@@ -86,14 +56,8 @@ loop-again c =
     (λ v. scanned-same (scanned-gap w l _ d (v .0 .left) _ (v .1 .ensures) (v .2 .left) _ (v .3 .ensures)) (v .4) (v .5) (v .6))
     (c .if2 .came)
 
-one-if-requires-2 : tie.Need-one-if-requires-2 Inv-loop μ-loop
-one-if-requires-2 c κs = search needs
-
 add-count-2 : tie.Need-add-count-2 Inv-loop μ-loop
 add-count-2 c = search (needs, count-fits)
-
-refused-requires-4 : tie.Need-refused-requires-4 Inv-loop μ-loop
-refused-requires-4 c κs = search needs
 
 returns-4 : tie.Need-returns-4 Inv-loop μ-loop
 returns-4 c =
@@ -109,29 +73,29 @@ parse-spec =
     (tie.spec
     Inv-loop
     μ-loop
-    refused-requires
+    (λ c κs. search needs)
     returns
     loop-holds
-    shared-slice-read-b
-    is-digit-requires
+    (λ c. search needs)
+    (λ c κs. search needs)
     mul-with-digit
     array-read-with-digit
     with-digit-requires
-    refused-requires-2
+    (λ c κs. search needs)
     returns-2
-    cast-numbers
+    (λ c. search needs)
     mul-numbers
     array-write-numbers
-    is-gap-requires
-    refused-requires-3
+    (λ c κs. search needs)
+    (λ c κs. search needs)
     returns-3
-    one-if-requires
+    (λ c κs. search needs)
     add-count
-    add-i
-    loop-less
+    (λ c. search needs)
+    (λ c. search needs)
     loop-again
-    one-if-requires-2
+    (λ c κs. search needs)
     add-count-2
-    refused-requires-4
+    (λ c κs. search needs)
     returns-4
     returns-5)

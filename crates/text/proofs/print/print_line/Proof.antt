@@ -1,70 +1,32 @@
-use mathlib.Core.Path.{_≡_}
-use Prim.Native.Nat.{_-_}
+use mathlib.Core.Path.{refl, sym, ap}
 use lib.ListN.{length}
-use Rattle.text.specs.Text.{spaced}
-use Rattle.text.specs.Write.{storedLine}
-use Rattle.text.proofs.Writes.{Writing, writing-kept}
-use Rattle.text.proofs.Lines.{partOf, numbers-none, place-room, place-more, end-room, line-wrote}
+use lib.Seq.{length-take-le}
 use borrow.Author.Needs.{needs}
 use Rattle.text.proofs.print.print_line.Statement.{statement}
 use Rattle.text.proofs.print.print_line.Tie as tie
 
-abbrev Inv-loop : tie.InvT-loop
-Inv-loop plan k out₀ at n end₀ i₀ t8 out end i = (n ≡ length (storedLine plan k)) × Writing (partOf (storedLine plan k)) n i (spaced (storedLine plan k)) out₀ at out end
+line-numbers-requires : tie.Need-line-numbers-requires
+line-numbers-requires c κs = record { has = c .before .before .before .pre .has; room = refl }
 
-abbrev μ-loop : tie.MeasureT-loop
-μ-loop plan k out₀ at n end₀ i₀ t8 out end i = n - i
+array-share-prefix-numbers : tie.Need-array-share-prefix-numbers
+array-share-prefix-numbers c = c .line-numbers .ensures .inside
 
-line-length-requires : tie.Need-line-length-requires Inv-loop μ-loop
-line-length-requires c κs = search needs
+slice-aggregate-print-numbers : tie.Need-slice-aggregate-print-numbers
+slice-aggregate-print-numbers c = sym (length-take-le _ _ (c .before .line-numbers .ensures .inside))
 
-loop-holds : tie.Need-loop-holds Inv-loop μ-loop
-loop-holds c = (search needs, search (needs, numbers-none))
+print-numbers-requires : tie.Need-print-numbers-requires
+print-numbers-requires c κs = rw (c .before .before .line-numbers .ensures .is) (c .before .before .before .before .before .before .pre .room)
 
-line-number-requires : tie.Need-line-number-requires Inv-loop μ-loop
-line-number-requires c κs = search needs
-
-put-number-requires : tie.Need-put-number-requires Inv-loop μ-loop
-put-number-requires c κs = search (needs, place-room)
-
-add-i : tie.Need-add-i Inv-loop μ-loop
-add-i c = search needs
-
-loop-less : tie.Need-loop-less Inv-loop μ-loop
-loop-less c = search needs
-
-loop-again : tie.Need-loop-again Inv-loop μ-loop
-loop-again c =
-    let call = c .before .before in
-    let turn = call .before .before .before in
-    (search needs, place-more _ (turn .before .loop .inv .1) (search needs) (call .before .line-number .ensures) (call .put-number .ensures))
-
-slice-aggregate-put-bytes : tie.Need-slice-aggregate-put-bytes Inv-loop μ-loop
-slice-aggregate-put-bytes c = search needs
-
-put-bytes-requires : tie.Need-put-bytes-requires Inv-loop μ-loop
-put-bytes-requires c κs = search (needs, end-room)
-
-same-length : tie.Need-same-length Inv-loop μ-loop
-same-length c = search (needs, writing-kept)
-
-returns : tie.Need-returns Inv-loop μ-loop
-returns c = search (needs, line-wrote)
+returns : tie.Need-returns
+returns c = let put = c .before .before in rw (put .before .before .before .line-numbers .ensures .is) at (put .print-numbers .ensures)
 
 pub print-line-spec : {M : Type 1} → statement M
 print-line-spec =
     tie.close
     (tie.spec
-    Inv-loop
-    μ-loop
-    line-length-requires
-    loop-holds
-    line-number-requires
-    put-number-requires
-    add-i
-    loop-less
-    loop-again
-    slice-aggregate-put-bytes
-    put-bytes-requires
-    same-length
+    line-numbers-requires
+    array-share-prefix-numbers
+    slice-aggregate-print-numbers
+    print-numbers-requires
+    (λ c. search needs)
     returns)

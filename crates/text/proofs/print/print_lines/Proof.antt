@@ -1,42 +1,40 @@
-use mathlib.Core.Path.{_≡_, ap}
+use mathlib.Core.Path.{_≡_}
 use Prim.Native.Nat.{_+_, _-_, _≤_}
-use Rattle.stored.specs.declared.Sizes.{Sizes}
-use Rattle.stored.specs.Form.{arraysOf, decode}
-use Rattle.text.specs.Text.{listing}
+use native.Mathlib.Omega.{arith}
+use lib.ListN.{length}
+use Rattle.form.specs.Form.{decode}
+use Rattle.text.specs.Text.{line, listing}
+use Rattle.text.specs.Write.{planLine}
 use Rattle.text.proofs.Writes.{Writing, writing-room, writing-more, writing-length, writing-all}
-use Rattle.text.proofs.Lines.{lineOf, lines-none, head-there, lines-fit, lines-few}
+use Rattle.text.proofs.Lines.{plan-long, lines-few, lines-fit, lines-are, lines-none}
 use borrow.Author.Needs.{needs}
 use Rattle.text.proofs.print.print_lines.Statement.{statement}
 use Rattle.text.proofs.print.print_lines.Tie as tie
 
 abbrev Inv-loop : tie.InvT-loop
-Inv-loop plan out₀ at n end₀ k₀ out end k = (n ≡ arraysOf plan + 1) × (n ≤ 171) × Writing (lineOf plan) n k (listing (decode plan)) out₀ at out end
+Inv-loop plan out₀ at n end₀ k₀ out end k = (n ≡ length (decode plan .arrays) + 1) × (n ≤ 171) × Writing (λ j. line (planLine (decode plan) j)) n k (listing (decode plan)) out₀ at out end
 
 abbrev μ-loop : tie.MeasureT-loop
 μ-loop plan out₀ at n end₀ k₀ out end k = n - k
 
 sizes-requires : tie.Need-sizes-requires Inv-loop μ-loop
-sizes-requires c κs = search (needs, head-there)
+sizes-requires c κs = search (needs, plan-long)
 
 add-n : tie.Need-add-n Inv-loop μ-loop
-add-n c = search (needs, lines-fit)
+add-n c = let sized = c .before in lines-fit _ (sized .before .before .before .pre .0) (sized .sizes .ensures)
 
 loop-holds : tie.Need-loop-holds Inv-loop μ-loop
 loop-holds c =
-    let s = c .before .sizes in
-    let start = c .before .before .before .before in
-    (ap (λ (t : Sizes). t .arrays + 1) (s .ensures), lines-few _ (start .pre .0) _ (s .ensures), lines-none _ _ (s .ensures) (start .pre .1))
+    let sized = c .before in
+    let pre = sized .before .before .before .pre in
+    (omega (arith, lines-are _ (pre .0) (sized .sizes .ensures)), lines-few _ (pre .0) (sized .sizes .ensures), lines-none _ (pre .0) (sized .sizes .ensures) (pre .1))
 
 print-line-requires : tie.Need-print-line-requires Inv-loop μ-loop
 print-line-requires c κs =
-    let l = c .before .before .loop .inv in
-    (c .before .before .before .before .before .before .before .pre .0, search needs, writing-room (l .2) (search needs))
-
-add-k : tie.Need-add-k Inv-loop μ-loop
-add-k c = search needs
-
-loop-less : tie.Need-loop-less Inv-loop μ-loop
-loop-less c = search needs
+    let turn = c .before in
+    let loop = turn .before .loop .inv in
+    let pre = turn .before .before .before .before .before .before .pre in
+    record { has = record { laid-out = pre .0; there = omega (arith, loop .0, turn .loop-test .taken) }; room = writing-room (loop .2) (turn .loop-test .taken) }
 
 loop-again : tie.Need-loop-again Inv-loop μ-loop
 loop-again c = search (needs, writing-more)
@@ -57,8 +55,8 @@ print-lines-spec =
     add-n
     loop-holds
     print-line-requires
-    add-k
-    loop-less
+    (λ c. search needs)
+    (λ c. search needs)
     loop-again
     same-length
     returns)

@@ -8,11 +8,5 @@ print-lines-requires c κs =
     let start = c .before .before .before in
     (start .pre .0, listing-room _ (start .pre .0) (λ k. c .before .before .shared-slice-known .given k .fits) _ _ (start .pre .1))
 
-same-length : tie.Need-same-length
-same-length c = search needs
-
-returns : tie.Need-returns
-returns c = search needs
-
 pub print-plan-bytes-spec : {M : Type 1} → statement M
-print-plan-bytes-spec = tie.close (tie.spec print-lines-requires same-length returns)
+print-plan-bytes-spec = tie.close (tie.spec print-lines-requires (λ c. search needs) (λ c. search needs))

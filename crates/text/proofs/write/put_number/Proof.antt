@@ -6,9 +6,6 @@ use Rattle.text.proofs.write.put_number.Tie as tie
 put-decimal-requires : tie.Need-put-decimal-requires
 put-decimal-requires c κs = search (needs, first-room)
 
-same-length : tie.Need-same-length
-same-length c = search needs
-
 returns : tie.Need-returns
 returns c = search (needs, first-wrote)
 
@@ -18,9 +15,6 @@ put-byte-requires c κs = search (needs, space-room)
 put-decimal-requires-2 : tie.Need-put-decimal-requires-2
 put-decimal-requires-2 c κs = search (needs, later-room)
 
-same-length-2 : tie.Need-same-length-2
-same-length-2 c = search needs
-
 returns-2 : tie.Need-returns-2
 returns-2 c = search (needs, later-wrote)
 
@@ -29,9 +23,9 @@ put-number-spec =
     tie.close
     (tie.spec
     put-decimal-requires
-    same-length
+    (λ c. search needs)
     returns
     put-byte-requires
     put-decimal-requires-2
-    same-length-2
+    (λ c. search needs)
     returns-2)

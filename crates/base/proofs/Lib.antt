@@ -1,0 +1,11 @@
+pub mod Lists
+pub mod Sums
+pub mod SumLoops
+pub mod Every
+pub mod Joins
+pub mod Buffers
+pub mod Puts
+pub mod Filling
+pub mod Tests
+pub mod Tabulated
+pub mod Listing

@@ -1,0 +1,48 @@
+// Numbers in a wider or narrower type: one function a pair of types. A narrower type is asked to hold the number.
+ghost use mathlib.Core.Path.{_≡_};
+ghost use Prim.Native.Nat.{_≤_, _<_};
+
+// A byte in 64 bits.
+pub fn u8_to_u64(x: u8) -> u64
+    ensures { λ r. ⌜ r ≡ x ⌝ }
+{
+    x as u64
+}
+
+// A number of 64 bits as a byte.
+pub fn u64_to_u8(x: u64) -> u8
+    requires { ⌜ x ≤ 255 ⌝ }
+    ensures { λ r. ⌜ r ≡ x ⌝ }
+{
+    x as u8
+}
+
+// A number of 64 bits in 16.
+pub fn u64_to_u16(x: u64) -> u16
+    requires { ⌜ x ≤ 65535 ⌝ }
+    ensures { λ r. ⌜ r ≡ x ⌝ }
+{
+    x as u16
+}
+
+// A number of 64 bits in 32.
+pub fn u64_to_u32(x: u64) -> u32
+    requires { ⌜ x ≤ 4294967295 ⌝ }
+    ensures { λ r. ⌜ r ≡ x ⌝ }
+{
+    x as u32
+}
+
+// A number of 16 bits in 32.
+pub fn u16_to_u32(x: u16) -> u32
+    ensures { λ r. ⌜ (r ≡ x) × (r < 65536) ⌝ }
+{
+    x as u32
+}
+
+// A number of 16 bits in 64.
+pub fn u16_to_u64(x: u16) -> u64
+    ensures { λ r. ⌜ (r ≡ x) × (r < 65536) ⌝ }
+{
+    x as u64
+}

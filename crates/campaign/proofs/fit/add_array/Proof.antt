@@ -1,0 +1,17 @@
+use Rattle.form.proofs.Sizing.{sized-fits}
+use Rattle.campaign.proofs.Fitting.{scratch-asked, read-room, read-length, read-addable, read-added}
+use borrow.Author.Needs.{needs}
+use Rattle.campaign.proofs.fit.add_array.Statement.{statement}
+use Rattle.campaign.proofs.fit.add_array.Tie as tie
+
+pub add-array-spec : {M : Type 1} → statement M
+add-array-spec =
+    tie.close
+    (tie.spec
+    (λ c. search (needs, sized-fits))
+    (λ c. search needs)
+    (λ c κs. search (needs, scratch-asked))
+    (λ c. search (needs, read-room))
+    (λ c. search (needs, read-length))
+    (λ c κs. search (needs, read-addable))
+    (λ c. search (needs, read-added)))

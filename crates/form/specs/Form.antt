@@ -1,0 +1,123 @@
+-- Stored plan, form 1 (01, "Stored plan, form 1"). Assumes nothing.
+use mathlib.Core.Bool.{Bool, _&&_}
+use mathlib.Core.List.{List, [], _∷_, _++_}
+use Prim.Native.Nat.{ℕ, zero, suc, _+_, _*_, _/_, _%_}
+use lib.ListN.{length, getD}
+use lib.Dec.{eqb}
+use Rattle.base.specs.Lists.{tabulate, joinTo, every}
+use Rattle.table.specs.Table.{maxRows, maxColumns, maxArrays, maxDenominator}
+use Rattle.table.specs.Check.{upTo}
+use Rattle.form.specs.declared.Sizes.{Sizes}
+use Rattle.form.specs.Plan.{Plan, arrayAt}
+
+-- "Low byte first.": a number in n bytes
+unfoldable pub bytes : ℕ → ℕ → List ℕ
+bytes zero x = []
+bytes (suc n) x = x % 256 ∷ bytes n (x / 256)
+
+-- the number in the n bytes from a place on
+unfoldable pub number : ℕ → List ℕ → ℕ → ℕ
+number zero b at = 0
+number (suc n) b at = getD b at 0 + 256 * number n b (at + 1)
+
+-- "Then the bodies without gaps, in the order of the contents: the table, 4 bytes a cell; each array, 2 bytes a cell."
+-- where body i of a plan with k arrays begins: 0 is the table's, i is array i's
+abbrev pub bodyAt : ℕ → ℕ → ℕ → ℕ → ℕ
+bodyAt r c k zero = 8 + 8 * (k + 1)
+bodyAt r c k (suc i) = 8 + 8 * (k + 1) + 4 * (r * c) + i * (2 * (r * c))
+
+-- "The length is 8 + 8·(K+1) + 4·r·c + 2·K·r·c"
+abbrev pub planLength : ℕ → ℕ → ℕ → ℕ
+planLength r c k = 8 + 8 * (k + 1) + 4 * (r * c) + k * (2 * (r * c))
+
+-- "from 30 to 50,912"
+abbrev pub minLength : ℕ
+minLength = 30
+
+abbrev pub maxLength : ℕ
+maxLength = 50912
+
+-- "Head, 8 bytes: form (2 bytes, 1), r (1), c (1), K, the number of arrays (2), zero (2). Then the contents, K+1 entries of 8 bytes: entry 0
+-- is D and the offset of the table's body; entry k is array k's weight and the offset of its body, 4 bytes each. Then the bodies"
+unfoldable pub head : ℕ → ℕ → ℕ → List ℕ
+head r c k = bytes 2 1 ++ bytes 1 r ++ bytes 1 c ++ bytes 2 k ++ bytes 2 0
+
+unfoldable pub contentsEntry : ℕ → ℕ → List ℕ
+contentsEntry amount offset = bytes 4 amount ++ bytes 4 offset
+
+-- the number beside the offset in entry k of the contents: D, or array k's weight
+abbrev pub amountIn : Plan → ℕ → ℕ
+amountIn p zero = p .denominator
+amountIn p (suc k) = arrayAt (p .arrays) k .weight
+
+unfoldable pub encode : Plan → List ℕ
+encode p =
+    let r = p .rows in
+    let c = p .columns in
+    let k = length (p .arrays) in
+    head r c k
+    ++ joinTo (k + 1) (λ i. contentsEntry (amountIn p i) (bodyAt r c k i))
+    ++ joinTo (r * c) (λ i. bytes 4 (getD (p .cells) i 0))
+    ++ joinTo k (λ j. joinTo (r * c) (λ i. bytes 2 (getD (arrayAt (p .arrays) j .counts) i 0)))
+
+-- what the fields of some bytes say, wherever they come from; a byte that is not there is 0
+abbrev pub formOf : List ℕ → ℕ
+formOf b = number 2 b 0
+
+abbrev pub rowsOf : List ℕ → ℕ
+rowsOf b = number 1 b 2
+
+abbrev pub columnsOf : List ℕ → ℕ
+columnsOf b = number 1 b 3
+
+abbrev pub arraysOf : List ℕ → ℕ
+arraysOf b = number 2 b 4
+
+abbrev pub zeroOf : List ℕ → ℕ
+zeroOf b = number 2 b 6
+
+-- the two numbers of entry k of the contents
+abbrev pub amountOf : List ℕ → ℕ → ℕ
+amountOf b k = number 4 b (8 + 8 * k)
+
+abbrev pub offsetOf : List ℕ → ℕ → ℕ
+offsetOf b k = number 4 b (12 + 8 * k)
+
+abbrev pub denominatorOf : List ℕ → ℕ
+denominatorOf b = amountOf b 0
+
+-- the sizes that the fields say
+abbrev pub sizesOf : List ℕ → Sizes
+sizesOf b = record { rows = rowsOf b; columns = columnsOf b; arrays = arraysOf b; denominator = denominatorOf b }
+
+-- "The body of array k begins where its contents entry points.": cell i of the table, and count i of array k
+abbrev pub cellOf : List ℕ → ℕ → ℕ
+cellOf b i = number 4 b (offsetOf b 0 + 4 * i)
+
+abbrev pub countOf : List ℕ → ℕ → ℕ → ℕ
+countOf b k i = number 2 b (offsetOf b k + 2 * i)
+
+-- the plan that the bytes hold
+unfoldable pub decode : List ℕ → Plan
+decode b =
+    let n = rowsOf b * columnsOf b in
+    record {
+      rows = rowsOf b;
+      columns = columnsOf b;
+      denominator = denominatorOf b;
+      cells = tabulate n (cellOf b);
+      arrays = tabulate (arraysOf b) (λ k. record { weight = amountOf b (suc k); counts = tabulate n (countOf b (suc k)) });
+    }
+
+-- form, zero field and bounds
+unfoldable pub headRight : List ℕ → Bool
+headRight b =
+    eqb (formOf b) 1 && eqb (zeroOf b) 0
+    && upTo maxRows (rowsOf b) && upTo maxColumns (columnsOf b) && upTo maxArrays (arraysOf b) && upTo maxDenominator (denominatorOf b)
+
+-- "if the layout, the exact length and the bounds hold": else 5, "form, zero field, r, c, K, D, an offset or the length wrong"
+unfoldable pub laidOut : List ℕ → Bool
+laidOut b =
+    headRight b
+    && eqb (length b) (planLength (rowsOf b) (columnsOf b) (arraysOf b))
+    && every (arraysOf b + 1) (λ k. eqb (offsetOf b k) (bodyAt (rowsOf b) (columnsOf b) (arraysOf b) k))

@@ -1,0 +1,4 @@
+pub mod Plan
+pub mod Form
+pub mod Parts
+pub mod Find

@@ -1,0 +1,33 @@
+-- Plans, and the array that belongs to a draw number (01, "The plan"). Assumes nothing.
+use mathlib.Core.Bool.{cond}
+use mathlib.Core.List.{List, [], _∷_}
+use Prim.Native.Nat.{ℕ, _-_, _*_}
+use lib.ListN.{getD}
+use lib.Dec.{ltb}
+
+-- an array with its weight
+pub record Weighted : Type 0 where
+  pub weight : ℕ
+  pub counts : List ℕ
+
+-- the array at a place of a list, and where there is none an empty one of weight 0
+abbrev pub arrayAt : List Weighted → ℕ → Weighted
+arrayAt l k = getD l k (record { weight = 0; counts = [] })
+
+-- a table with its list of weighted arrays
+pub record Plan : Type 0 where
+  pub rows : ℕ
+  pub columns : ℕ
+  pub denominator : ℕ
+  pub cells : List ℕ
+  pub arrays : List Weighted
+
+-- how many cells a plan's table has
+abbrev pub cellCount : Plan → ℕ
+cellCount p = p .rows * p .columns
+
+-- "Draw number d, from 0 to D − 1, belongs to the array k for which the weights before k add up to at most d, and with k to more than d."; an empty list where d
+-- is not below the sum
+unfoldable pub arrayFor : List Weighted → ℕ → List ℕ
+arrayFor [] d = []
+arrayFor (a ∷ l) d = cond (ltb d (a .weight)) (a .counts) (arrayFor l (d - a .weight))

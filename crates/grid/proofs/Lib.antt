@@ -1,0 +1,5 @@
+pub mod GridPlaces
+pub mod Grids
+pub mod GridSums
+pub mod GridTests
+pub mod GridBounds

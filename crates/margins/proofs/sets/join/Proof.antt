@@ -1,9 +1,0 @@
-use Rattle.margins.proofs.sets.join.Statement.{statement}
-use Rattle.margins.proofs.sets.join.Tie as tie
-use Rattle.margins.proofs.Members.{on-or}
-
-returns : tie.Need-returns
-returns c = record { is = on-or (c .args .a) (c .args .b) }
-
-pub join-spec : {M : Type 1} → statement M
-join-spec = tie.close (tie.spec returns)

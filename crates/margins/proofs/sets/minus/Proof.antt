@@ -1,9 +1,0 @@
-use Rattle.margins.proofs.sets.minus.Statement.{statement}
-use Rattle.margins.proofs.sets.minus.Tie as tie
-use Rattle.margins.proofs.Members.{minus-is}
-
-returns : tie.Need-returns
-returns c = minus-is (c .args .a) (c .args .b) (c .pre .0) (c .pre .1 .0) (c .pre .1 .1)
-
-pub minus-spec : {M : Type 1} → statement M
-minus-spec = tie.close (tie.spec returns)

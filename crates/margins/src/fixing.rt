@@ -1,0 +1,59 @@
+// The first of the matrices with the same line sums. `one` has for each row the columns whose place is fixed at 1.
+ghost use mathlib.Core.Path.{_≡_};
+ghost use Prim.Native.Nat.{_<_};
+ghost use Rattle.sets.specs.Set.{has};
+ghost use Rattle.margins.specs.Board.{Places, boardOf, Fixed, First};
+use crate::search::augment;
+use order::nth_column;
+use order::nth_row;
+use sets::member;
+use sets::single;
+use sets::with;
+use sets::without;
+
+// Fixes a place that is free and 1: at 0 where that can be, else at 1.
+pub fn lower(
+    up: &mut [u32; 13],
+    down: &mut [u32; 13],
+    one: &mut [u32; 13],
+    row: usize,
+    column: usize,
+)
+    requires { ⌜ Places (now up) (now down) (now one) ⌝ }
+    requires { ⌜ (row < 13) × ((column < 13) × (has (now down) column row ≡ 1)) ⌝ }
+    ensures { λ _. ⌜ Places (now (up .exit)) (now (down .exit)) (now (one .exit))
+        × Fixed (boardOf (now (up .entry)) (now (down .entry)) (now (one .entry))) (boardOf (now (up .exit)) (now (down .exit)) (now (one .exit))) row column ⌝ }
+{
+    down[column] = without(down[column], row);
+    let found = augment(up, down, single(column), row);
+    if found == 13 {
+        one[row] = with(one[row], column);
+    }
+}
+
+// Fixes a place, as low as can be.
+pub fn fix(up: &mut [u32; 13], down: &mut [u32; 13], one: &mut [u32; 13], row: usize, column: usize)
+    requires { ⌜ Places (now up) (now down) (now one) ⌝ }
+    requires { ⌜ (row < 13) × (column < 13) ⌝ }
+    ensures { λ _. ⌜ Places (now (up .exit)) (now (down .exit)) (now (one .exit))
+        × Fixed (boardOf (now (up .entry)) (now (down .entry)) (now (one .entry))) (boardOf (now (up .exit)) (now (down .exit)) (now (one .exit))) row column ⌝ }
+{
+    if member(up[row], column) == 1 {
+        up[row] = without(up[row], column);
+        return;
+    }
+    if member(down[column], row) == 1 {
+        lower(up, down, one, row, column);
+    }
+}
+
+// Fixes the 12 by 12 cells, in the order in which cells are compared.
+pub fn fix_all(up: &mut [u32; 13], down: &mut [u32; 13], one: &mut [u32; 13])
+    requires { ⌜ Places (now up) (now down) (now one) ⌝ }
+    ensures { λ _. ⌜ Places (now (up .exit)) (now (down .exit)) (now (one .exit))
+        × First (boardOf (now (up .entry)) (now (down .entry)) (now (one .entry))) (boardOf (now (up .exit)) (now (down .exit)) (now (one .exit))) 144 ⌝ }
+{
+    for n in 0..144 {
+        fix(up, down, one, nth_row(n), nth_column(n));
+    }
+}

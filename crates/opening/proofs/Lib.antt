@@ -1,0 +1,8 @@
+mod EntryLines
+pub mod Weighting
+pub mod Belonging
+pub mod Opening
+pub mod Opens
+pub mod Drawing
+mod ContentTests
+mod Examples

@@ -1,0 +1,49 @@
+use mathlib.Core.Path.{refl}
+use Rattle.opening.proofs.ContentTests.{table-shape, table-arrays, table-few, arrays-unheld, sums-long, arrays-met}
+use borrow.Author.Needs.{needs}
+use Rattle.opening.proofs.content.arrays_right.Statement.{statement}
+use Rattle.opening.proofs.content.arrays_right.Tie as tie
+
+bounds-requires : tie.Need-bounds-requires
+bounds-requires c κs =
+    let wide = c .before .before in
+    let pre = wide .before .before .before .pre in
+    (table-shape pre, (rw (wide .wide .ensures .0) (pre .cells-are), record { low-length = refl; high-length = refl }))
+
+arrays-held-requires : tie.Need-arrays-held-requires
+arrays-held-requires c κs =
+    let bounded = c .before .before .before in
+    let wide = bounded .before .before .before in
+    let pre = wide .before .before .before .pre in
+    table-arrays pre (rw (wide .wide .ensures .0) at (bounded .bounds .ensures))
+
+returns : tie.Need-returns
+returns c =
+    let held = c .before in
+    let pre = held .before .before .before .before .before .before .before .before .before .before .pre in
+    arrays-unheld pre (held .arrays-held .ensures) (c .if1 .taken)
+
+cells-met-requires : tie.Need-cells-met-requires
+cells-met-requires c κs =
+    let tested = c .before in
+    let held = tested .before in
+    let pre = held .before .before .before .before .before .before .before .before .before .before .pre in
+    (table-few pre, sums-long pre (held .arrays-held .ensures) (tested .if1 .left))
+
+returns-2 : tie.Need-returns-2
+returns-2 c =
+    let tested = c .before .before in
+    let held = tested .before in
+    let pre = held .before .before .before .before .before .before .before .before .before .before .pre in
+    arrays-met pre (held .arrays-held .ensures) (tested .if1 .left) (c .cells-met .ensures)
+
+pub arrays-right-spec : {M : Type 1} → statement M
+arrays-right-spec =
+    tie.close
+    (tie.spec
+    (λ c κs. search needs)
+    bounds-requires
+    arrays-held-requires
+    returns
+    cells-met-requires
+    returns-2)

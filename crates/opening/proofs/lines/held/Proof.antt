@@ -1,0 +1,55 @@
+use Rattle.opening.proofs.EntryLines.{placed-cells, placed-rows, placed-columns, bad-cells, bad-rows, columns-last}
+use borrow.Author.Needs.{needs}
+use Rattle.opening.proofs.lines.held.Statement.{statement}
+use Rattle.opening.proofs.lines.held.Tie as tie
+
+lines-between-requires : tie.Need-lines-between-requires
+lines-between-requires c κs =
+    let pre = c .before .before .pre in
+    (rw (c .cells-of .ensures) (placed-cells (pre .shape)), pre .room)
+
+returns : tie.Need-returns
+returns c =
+    let cells = c .before in
+    bad-cells _ _ _ _ _ (rw (cells .before .cells-of .ensures) at (cells .lines-between .ensures)) (c .if1 .taken)
+
+lines-between-requires-2 : tie.Need-lines-between-requires-2
+lines-between-requires-2 c κs =
+    let pre = c .before .before .before .before .before .pre in
+    (rw (c .rows-of .ensures) (placed-rows (pre .shape)), pre .room)
+
+returns-2 : tie.Need-returns-2
+returns-2 c =
+    let rows = c .before in
+    let cells = rows .before .before .before in
+    bad-rows _ _ _ _ _ (rw (cells .before .cells-of .ensures) at (cells .lines-between .ensures)) (rows .before .before .if1 .left)
+    (rw (rows .before .rows-of .ensures) at (rows .lines-between2 .ensures)) (c .if2 .taken)
+
+lines-between-requires-3 : tie.Need-lines-between-requires-3
+lines-between-requires-3 c κs =
+    let pre = c .before .before .before .before .before .before .before .before .pre in
+    (rw (c .columns-of .ensures) (placed-columns (pre .shape)), pre .room)
+
+returns-3 : tie.Need-returns-3
+returns-3 c =
+    let tested = c .before .before in
+    let rows = tested .before in
+    let cells = rows .before .before .before in
+    columns-last _ _ _ _ _ (rw (cells .before .cells-of .ensures) at (cells .lines-between .ensures)) (rows .before .before .if1 .left)
+    (rw (rows .before .rows-of .ensures) at (rows .lines-between2 .ensures)) (tested .if2 .left) (rw (c .before .columns-of .ensures) at (c .lines-between3 .ensures))
+
+pub held-spec : {M : Type 1} → statement M
+held-spec =
+    tie.close
+    (tie.spec
+    (λ c. search needs)
+    (λ c κs. search needs)
+    lines-between-requires
+    returns
+    (λ c κs. search needs)
+    lines-between-requires-2
+    returns-2
+    (λ c κs. search needs)
+    (λ c. search needs)
+    lines-between-requires-3
+    returns-3)

@@ -1,0 +1,82 @@
+-- When a plan opens, and what a draw from it gives (01, "Stored plan, form 1" and "Turned back"). Assumes nothing.
+use mathlib.Core.Path.{_≡_}
+use mathlib.Core.Bool.{Bool, not, _&&_}
+use mathlib.Core.List.{List, [], _∷_, _++_, map}
+use mathlib.Core.Option.{Option, none}
+use Prim.Native.Nat.{ℕ, _*_, _<_, _≤_}
+use lib.ListN.{length, getD}
+use lib.Dec.{leb, ltb, eqb}
+use Rattle.base.specs.Lists.{sum, all, every}
+use Rattle.table.specs.Table.{lines, total}
+use Rattle.table.specs.Whole.{roundsTo}
+use Rattle.table.specs.Check.{cellsWithin}
+use Rattle.refusals.specs.Numbers.{numberOf}
+use Rattle.refusals.specs.declared.Refusal.{Refusal}
+use Rattle.refusals.specs.Due.{Test, refuse, due, refusedOr}
+use Rattle.refusals.specs.declared.Refusal.the-variants.{Layout, Content, Buffer, Number}
+use Rattle.opening.specs.declared.Opened.{Opened}
+use Rattle.opening.specs.declared.Opened.the-variants as opened
+use Rattle.form.specs.declared.Sizes.{Sizes}
+use Rattle.form.specs.Plan.{Weighted, Plan, arrayFor}
+use Rattle.form.specs.Form.{rowsOf, columnsOf, denominatorOf, sizesOf, laidOut, decode}
+
+-- "each cell, row total and column total of each array is the table's entry over D rounded down or up, whole ones kept":
+-- the entries that an opened plan is held to
+abbrev pub heldTo : ℕ → ℕ → List (List ℕ)
+heldTo r c = lines r c
+
+abbrev pub held : Plan → Weighted → Bool
+held p a = all (λ s. roundsTo (p .denominator) (total (p .cells) s) (total (a .counts) s)) (heldTo (p .rows) (p .columns))
+
+-- the counts at place i times the weights, added up
+abbrev pub weighted : List Weighted → ℕ → ℕ
+weighted l i = sum (map (λ a. a .weight * getD (a .counts) i 0) l)
+
+-- "each weight is at least 1 and they add up to D; each cell, row total and column total [..]; and for each cell the counts times the weights
+-- add up to g"; and a stored cell is at most 1000·D: else 6
+unfoldable pub consistent : Plan → Bool
+consistent p =
+    cellsWithin (p .denominator) (p .cells)
+    && all (λ a. leb 1 (a .weight)) (p .arrays)
+    && eqb (sum (map (λ a. a .weight) (p .arrays))) (p .denominator)
+    && all (held p) (p .arrays)
+    && every (p .rows * p .columns) (λ i. eqb (weighted (p .arrays) i) (getD (p .cells) i 0))
+
+-- The refusals of every call that takes a plan, in the order of their numbers: 5, the layout, the exact length or a bound is wrong;
+-- 6, another opening condition is unmet.
+abbrev pub openTests : List ℕ → List Test
+openTests b = refuse Layout (not (laidOut b)) ∷ refuse Content (not (consistent (decode b))) ∷ []
+
+unfoldable pub openRefusal : List ℕ → Option Refusal
+openRefusal b = due (openTests b)
+
+-- a plan opens if neither of the two applies
+abbrev pub Opens : List ℕ → Type 0
+Opens b = openRefusal b ≡ none
+
+-- the call "open" answers with the plan's sizes
+unfoldable pub openAnswer : List ℕ → Opened
+openAnswer b = refusedOr opened.Refused (opened.Plan (sizesOf b)) (openRefusal b)
+
+-- the number that each answer stands for: 0 for a plan that opens, else the refusal's
+abbrev pub openedNumber : Opened → ℕ
+openedNumber (opened.Plan s) = 0
+openedNumber (opened.Refused x) = numberOf x
+
+-- the refusals of the call "draw", with a buffer of `room` counts: those of opening; 7, the buffer is shorter than the array; 8, the number is not below D
+abbrev pub drawTests : List ℕ → ℕ → ℕ → List Test
+drawTests b d room =
+    openTests b ++ (refuse Buffer (ltb room (rowsOf b * columnsOf b)) ∷ refuse Number (leb (denominatorOf b) d) ∷ [])
+
+unfoldable pub drawRefusal : List ℕ → ℕ → ℕ → Option Refusal
+drawRefusal b d room = due (drawTests b d room)
+
+-- the array that belongs to a draw number of a stored plan
+abbrev pub drawnArray : List ℕ → ℕ → List ℕ
+drawnArray b d = arrayFor (decode b .arrays) d
+
+-- what writing the array of a draw number asks: an opened plan with its sizes, a number below D, and room for the array
+pub record Drawing (s : Sizes) (b : List ℕ) (d : ℕ) (counts : List ℕ) : Type 0 where
+  pub is-open : openAnswer b ≡ opened.Plan s
+  pub below : d < s .denominator
+  pub room : s .rows * s .columns ≤ length counts

@@ -1,0 +1,165 @@
+// The entries that each array of a plan is held to: of the table the bounds, which are found once, and of an array the sums between them.
+ghost use mathlib.Core.Path.{_≡_};
+ghost use Prim.Native.Nat.{_+_, _*_, _≤_};
+ghost use lib.ListN.{length};
+ghost use Rattle.table.specs.Table.{places, total, maxRows, maxColumns};
+ghost use Rattle.table.specs.Shape.{Shape, Reach};
+ghost use Rattle.opening.specs.Lines.{linePlaces, cellLines, rowLines, columnLines, Placed, Cells, Room, BoundsFrom, Bounds, oneOutside, linesBetween, entriesBetween, Counts};
+use base::convert::u8_to_u64;
+use base::convert::u16_to_u32;
+use base::convert::u64_to_u32;
+use table::sums::sum;
+use table::whole::divide;
+
+// Entries of one kind: `count` of them, entry l the sum over `number` places from l * `stride` on, `step` apart.
+pub struct Lines {
+    pub count: usize,
+    pub stride: usize,
+    pub step: usize,
+    pub number: usize,
+}
+
+// The cells, each the sum over one place.
+fn cells_of(rows: usize, columns: usize) -> Lines
+    requires { ⌜ (rows ≤ maxRows) × (columns ≤ maxColumns) ⌝ }
+    ensures { λ r. ⌜ r ≡ cellLines rows columns ⌝ }
+{
+    Lines {
+        count: rows * columns,
+        stride: 1,
+        step: 1,
+        number: 1,
+    }
+}
+
+// The row totals.
+fn rows_of(rows: usize, columns: usize) -> Lines
+    ensures { λ r. ⌜ r ≡ rowLines rows columns ⌝ }
+{
+    Lines {
+        count: rows,
+        stride: columns,
+        step: 1,
+        number: columns,
+    }
+}
+
+// The column totals.
+fn columns_of(rows: usize, columns: usize) -> Lines
+    ensures { λ r. ⌜ r ≡ columnLines rows columns ⌝ }
+{
+    Lines {
+        count: columns,
+        stride: 1,
+        step: columns,
+        number: rows,
+    }
+}
+
+// The entries of one kind of the table, over the denominator rounded down and up, from a place on.
+fn line_bounds(
+    cells: &[u32],
+    k: Lines,
+    from: usize,
+    denominator: u64,
+    low: &mut [u32; 169],
+    high: &mut [u32; 169],
+)
+    requires { ⌜ Placed k from (length (now cells)) × (Cells denominator (now cells) × Room (now low) (now high)) ⌝ }
+    ensures { λ _. ⌜ BoundsFrom denominator (λ l. total (now (cells .entry)) (linePlaces k l)) from
+        (now (low .entry)) (now (high .entry)) (now (low .exit)) (now (high .exit)) (k .count) ⌝ }
+{
+    for l in 0..k.count {
+        let entry = sum(cells, l * k.stride, k.step, k.number);
+        let parts = divide(entry, denominator);
+        low[from + l] = u64_to_u32(parts.whole);
+        high[from + l] = u64_to_u32(parts.whole + u8_to_u64(parts.gap));
+    }
+}
+
+// The bounds of all entries that an array is held to: cells, row totals, column totals.
+pub fn bounds(
+    cells: &[u32],
+    rows: usize,
+    columns: usize,
+    denominator: u64,
+    low: &mut [u32; 169],
+    high: &mut [u32; 169],
+)
+    requires { ⌜ Shape rows columns (now cells) × (Cells denominator (now cells) × Room (now low) (now high)) ⌝ }
+    ensures { λ _. ⌜ Bounds rows columns denominator (now (cells .entry)) (now (low .exit)) (now (high .exit)) ⌝ }
+{
+    let n = rows * columns;
+    line_bounds(cells, cells_of(rows, columns), 0, denominator, low, high);
+    line_bounds(cells, rows_of(rows, columns), n, denominator, low, high);
+    line_bounds(
+        cells,
+        columns_of(rows, columns),
+        n + rows,
+        denominator,
+        low,
+        high,
+    );
+}
+
+// The sum of `number` counts from `start` on, `step` apart.
+fn count_sum(counts: &[u16], start: usize, step: usize, number: usize) -> u32
+    requires { ⌜ Reach start step number (length (now counts)) ⌝ }
+    ensures { λ r. ⌜ r ≡ total (now (counts .entry)) (places start step number) ⌝ }
+{
+    let mut s: u32 = 0;
+    let mut at = start;
+    for k in 0..number {
+        s = s + u16_to_u32(counts[at]);
+        at = at + step;
+    }
+    s
+}
+
+// 1 where a number is below a low one or above a high one, else 0.
+fn outside(x: u32, low: u32, high: u32) -> u32
+    ensures { λ r. ⌜ r ≡ oneOutside low high x ⌝ }
+{
+    if x < low {
+        return 1;
+    }
+    if high < x {
+        return 1;
+    }
+    0
+}
+
+// Whether each entry of one kind of an array lies between its bounds, which stand from a place on. How many do not is counted, without leaving at the
+// first, so that a machine can compare several at once.
+fn lines_between(counts: &[u16], k: Lines, from: usize, low: &[u32; 169], high: &[u32; 169]) -> bool
+    requires { ⌜ Placed k from (length (now counts)) × Room (now low) (now high) ⌝ }
+    ensures { λ r. ⌜ r ≡ linesBetween (now (counts .entry)) (now (low .entry)) (now (high .entry)) k from ⌝ }
+{
+    let mut failed: u32 = 0;
+    for l in 0..k.count {
+        let x = count_sum(counts, l * k.stride, k.step, k.number);
+        failed = failed + outside(x, low[from + l], high[from + l]);
+    }
+    failed == 0
+}
+
+// Whether each entry that an array is held to lies between its bounds: cells, row totals, column totals.
+pub fn held(
+    counts: &[u16],
+    rows: usize,
+    columns: usize,
+    low: &[u32; 169],
+    high: &[u32; 169],
+) -> bool
+    requires { ⌜ Counts rows columns (now counts) (now low) (now high) ⌝ }
+    ensures { λ r. ⌜ r ≡ entriesBetween rows columns (now (counts .entry)) (now (low .entry)) (now (high .entry)) ⌝ }
+{
+    let n = rows * columns;
+    if !lines_between(counts, cells_of(rows, columns), 0, low, high) {
+        return false;
+    }
+    if !lines_between(counts, rows_of(rows, columns), n, low, high) {
+        return false;
+    }
+    lines_between(counts, columns_of(rows, columns), n + rows, low, high)
+}

@@ -1,0 +1,17 @@
+-- Refusals and their numbers (01, "Turned back"). Assumes nothing.
+use Prim.Native.Nat.{ℕ}
+use Rattle.refusals.specs.declared.Refusal.{Refusal}
+use Rattle.refusals.specs.declared.Refusal.the-variants.{Size, Denominator, CellCount, LargeCell, Layout, Content, Buffer, Number, Record, Taken}
+
+-- the number of each refusal in the table of "Turned back"
+abbrev pub numberOf : Refusal → ℕ
+numberOf Size = 1
+numberOf Denominator = 2
+numberOf CellCount = 3
+numberOf LargeCell = 4
+numberOf Layout = 5
+numberOf Content = 6
+numberOf Buffer = 7
+numberOf Number = 8
+numberOf Record = 9
+numberOf Taken = 10

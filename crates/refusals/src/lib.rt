@@ -1,0 +1,72 @@
+// Refusals, their numbers, and which one a call returns.
+ghost use mathlib.Core.Path.{_≡_};
+ghost use mathlib.Core.Bool.{true};
+ghost use mathlib.Core.List.{List};
+ghost use mathlib.Core.Option.{some, none};
+ghost use Rattle.refusals.specs.Numbers.{numberOf};
+ghost use Rattle.refusals.specs.Answer.{answerNumber};
+ghost use Rattle.refusals.specs.Due.{Test, due, noneApplies, FirstDue};
+
+// Why a call refuses its input, in the order of the refusals' numbers.
+pub enum Refusal {
+    // rows or columns not from 1 to 12
+    Size,
+    // the denominator not from 1 to 65,535
+    Denominator,
+    // the cells are not rows times columns many
+    CellCount,
+    // a cell above 1000 times the denominator
+    LargeCell,
+    // form, zero field, sizes, an offset or the length of a stored plan wrong
+    Layout,
+    // another condition of opening unmet
+    Content,
+    // a lent buffer shorter than its result or record
+    Buffer,
+    // a draw number not below the denominator
+    Number,
+    // the record does not fit the plan
+    Record,
+    // the number is taken
+    Taken,
+}
+
+// What a call answers that returns nothing but its success.
+pub enum Answer {
+    Done,
+    Refused(Refusal),
+}
+
+// The number of a refusal.
+pub fn number(r: Refusal) -> u32
+    ensures { λ n. ⌜ n ≡ numberOf r ⌝ }
+{
+    match r {
+        Refusal::Size => 1,
+        Refusal::Denominator => 2,
+        Refusal::CellCount => 3,
+        Refusal::LargeCell => 4,
+        Refusal::Layout => 5,
+        Refusal::Content => 6,
+        Refusal::Buffer => 7,
+        Refusal::Number => 8,
+        Refusal::Record => 9,
+        Refusal::Taken => 10,
+    }
+}
+
+// The number of an answer: 0 for done.
+pub fn answer_number(a: Answer) -> u32
+    ensures { λ n. ⌜ n ≡ answerNumber a ⌝ }
+{
+    match a {
+        Answer::Done => 0,
+        Answer::Refused(x) => number(x),
+    }
+}
+
+// Of any list of conditions and refusals: what is returned applies, and nothing before it does; and nothing is returned exactly if none applies.
+pub fn claims()
+    ensures first { λ _. ⌜ ((l : List Test) (x : Refusal) → due l ≡ some x → FirstDue l x) ⌝ }
+    ensures none { λ _. ⌜ ((l : List Test) → (due l ≡ none → noneApplies l ≡ true) × (noneApplies l ≡ true → due l ≡ none)) ⌝ }
+{}

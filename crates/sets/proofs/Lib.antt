@@ -1,0 +1,3 @@
+pub mod Indicators
+pub mod Members
+pub mod SetLoops

@@ -1,0 +1,112 @@
+// Sets of indices below 13, as numbers: i is a member where bit i is 1.
+ghost use mathlib.Core.Path.{_≡_};
+ghost use Prim.Native.Nat.{ℕ, _+_, _≤_, _<_};
+ghost use lib.ListN.{length};
+ghost use Rattle.sets.specs.Set.{on, Single, Some, Without, With, Meet, Join, Minus, Via, Picked, UnionOf, Nonzero};
+
+// The set of one member.
+pub fn single(i: usize) -> u32
+    requires { ⌜ i < 13 ⌝ }
+    ensures { λ r. ⌜ Single i r ⌝ }
+{
+    1u32 << (i as u32)
+}
+
+// 1 where i is a member, else 0.
+pub fn member(x: u32, i: usize) -> u32
+    requires { ⌜ i < 13 ⌝ }
+    ensures { λ r. ⌜ r ≡ on x i ⌝ }
+{
+    (x >> (i as u32)) % 2
+}
+
+// A member of a set that is not empty: the last.
+pub fn some(x: u32) -> usize
+    requires { ⌜ (0 < x) × (x < 8192) ⌝ }
+    ensures { λ r. ⌜ Some x r ⌝ }
+{
+    (31 - u32::leading_zeros(x)) as usize
+}
+
+// x without its member i.
+pub fn without(x: u32, i: usize) -> u32
+    requires { ⌜ (i < 13) × (on x i ≡ 1) ⌝ }
+    ensures { λ r. ⌜ Without x i r ⌝ }
+{
+    x ^ single(i)
+}
+
+// x with the new member i.
+pub fn with(x: u32, i: usize) -> u32
+    requires { ⌜ (i < 13) × (on x i ≡ 0) ⌝ }
+    ensures { λ r. ⌜ With x i r ⌝ }
+{
+    x | single(i)
+}
+
+// The members of both.
+pub fn meet(a: u32, b: u32) -> u32
+    ensures { λ r. ⌜ Meet a b r ⌝ }
+{
+    a & b
+}
+
+// The members of one or both.
+pub fn join(a: u32, b: u32) -> u32
+    ensures { λ r. ⌜ Join a b r ⌝ }
+{
+    a | b
+}
+
+// a without the members of its part b.
+pub fn minus(a: u32, b: u32) -> u32
+    requires { ⌜ (a < 8192) × ((b < 8192) × ((j : ℕ) → on b j ≤ on a j)) ⌝ }
+    ensures { λ r. ⌜ Minus a b r ⌝ }
+{
+    a ^ b
+}
+
+// The union of the sets whose index is in x.
+pub fn union_of(sets: &[u32; 13], x: u32) -> u32
+    requires { ⌜ x < 8192 ⌝ }
+    ensures { λ r. ⌜ UnionOf (now (sets .entry)) x r ⌝ }
+{
+    let mut left = x;
+    let mut r: u32 = 0;
+    while left != 0 {
+        let p = some(left);
+        r = join(r, sets[p]);
+        left = without(left, p);
+    }
+    r
+}
+
+// A member p of x with q in the set of index p.
+pub fn pick(sets: &[u32; 13], x: u32, q: usize) -> usize
+    requires { ⌜ (x < 8192) × ((q < 13) × Via (now sets) x q) ⌝ }
+    ensures { λ r. ⌜ Picked (now (sets .entry)) x q r ⌝ }
+{
+    let mut left = x;
+    while left != 0 {
+        let p = some(left);
+        if member(sets[p], q) == 1 {
+            return p;
+        }
+        left = without(left, p);
+    }
+    0
+}
+
+// Which of the 13 numbers from place `from` on are not 0.
+pub fn nonzero(numbers: &[u8], from: usize) -> u32
+    requires { ⌜ from + 13 ≤ length (now numbers) ⌝ }
+    ensures { λ r. ⌜ Nonzero (now (numbers .entry)) from r ⌝ }
+{
+    let mut r: u32 = 0;
+    for j in 0..13 {
+        if numbers[from + j] > 0 {
+            r = with(r, j);
+        }
+    }
+    r
+}

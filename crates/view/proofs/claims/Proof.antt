@@ -1,0 +1,10 @@
+-- `view::claims` states what proofs/Viewing.antt proves.
+use Rattle.view.proofs.Viewing.{finds-all}
+use Rattle.view.proofs.claims.Statement.{statement}
+use Rattle.view.proofs.claims.Tie as tie
+
+returns : tie.Need-returns
+returns c = finds-all
+
+pub claims-spec : {M : Type 1} → statement M
+claims-spec = tie.close (tie.spec returns)
