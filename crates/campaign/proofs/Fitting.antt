@@ -4,8 +4,10 @@ use mathlib.Core.Bool.{Bool, true, false, _&&_}
 use mathlib.Core.List.{List, []}
 use Prim.Native.Nat.{ℕ, zero, suc, _+_, _-_, _*_, _/_, _<_, _≤_}
 use native.Mathlib.Nat.{mul-comm}
+use native.Mathlib.Decide.{ℕ-discrete}
 use native.Mathlib.Omega.{arith}
 use lib.ListN.{length, getD, set, take, replicate, length-replicate}
+use lib.Seq.{getD-take, length-take-le}
 use lib.Dec.{eqb}
 use mir.Val.{Fits}
 use mir.Syntax.{w64}
@@ -15,24 +17,33 @@ use Rattle.base.specs.Buffers.{written}
 use Rattle.base.specs.Fill.{Filled}
 use Rattle.base.proofs.Lists.{length-tabulate, getD-tabulate}
 use Rattle.base.proofs.Sums.{sum-ext, sum-mul, sum-add-range, sum-places}
-use Rattle.base.proofs.Every.{Passed, passed-more, passed-all, every-not, every-ext, sum-none}
+use Rattle.base.proofs.Every.{every-ext, sum-none}
 use Rattle.base.proofs.SumLoops.{sum-more}
 use Rattle.base.proofs.Filling.{filled-none, front-more, front-all}
-use Rattle.base.proofs.Buffers.{written-at, written-length, written-front}
+use Rattle.base.proofs.Buffers.{written-at}
 use Rattle.form.specs.declared.Sizes.{Sizes}
 use Rattle.form.specs.Plan.{Weighted, arrayAt, cellCount, arrayFor}
 use Rattle.form.specs.Form.{decode}
 use Rattle.form.specs.Parts.{HasArray, HasCounts, Sized}
 use Rattle.form.proofs.Readings.{counts-length}
-use Rattle.opening.specs.Weighted.{Addable, Increased}
+use Rattle.opening.specs.Weighted.{Addable, Increased, cellsMet}
 use Rattle.opening.specs.Parts.{weightsBefore, weightAt, factored, SumsTo}
 use Rattle.form.proofs.Sizing.{arrays-are, cells-are, denominator-is, sized-few, sized-arrays, sized-denominator, has-counts}
 use Rattle.opening.proofs.Weighting.{sums-none, sums-addable, sums-more}
+use Rattle.opening.proofs.Scratch.{counts-read}
 use Rattle.opening.proofs.Belonging.{array-for}
 use Rattle.opening.proofs.Opening.{is-open, opened-sized}
 use Rattle.opening.proofs.Opens.{weights-add-up}
 use Rattle.campaign.specs.Record.{recordOf, bitOf, bitBytes, spareClear, takenSum, fits}
-use Rattle.campaign.specs.Parts.{bitsSet, Span, takenOf, takenNumbers, Numbered, ArrayAddable, ArraysAdded, Tally, tallyMet, Fitted}
+use Rattle.campaign.specs.Parts.{bitsSet, Span, takenOf, takenNumbers, Numbered, ArrayAddable, ArraysAdded, Fitted}
+
+-- two numbers compared either way
+eqb-sym : (m n : ℕ) → eqb m n ≡ eqb n m
+eqb-sym m n = go (ℕ-discrete m n)
+  where
+    go : Dec (m ≡ n) → eqb m n ≡ eqb n m
+    go (yes e) = rw e refl
+    go (no h) = ne-eqb _ _ h ∙ sym (ne-eqb _ _ (λ e. h (sym e)))
 
 -- a shorter sum
 sum-part : (m n : ℕ) (f : ℕ → ℕ) → m ≤ n → sumTo m f ≤ sumTo n f
@@ -105,32 +116,12 @@ scratch-asked a = has-counts (a .sized) (a .there) (omega (arith, length-replica
 
 module _ {s : Sizes} {b : List ℕ} {k : ℕ} {sums : List ℕ} (a : ArrayAddable s b k sums) {scratch : List ℕ}
     (e : scratch ≡ written (arrayAt (decode b .arrays) k .counts) (replicate 144 0)) where
-  abbrev n : ℕ
-  n = s .rows * s .columns
+  pub read-addable : Addable (take (s .rows * s .columns) scratch) sums
+  read-addable = rw (counts-read (a .sized) (a .there) e) (a .addable)
 
-  abbrev array : List ℕ
-  array = arrayAt (decode b .arrays) k .counts
-
-  long : length array ≡ n
-  long = counts-length b k (rw (arrays-are (a .sized)) (a .there)) ∙ cells-are (a .sized)
-
-  read : take n scratch ≡ array
-  read = ap (take n) e ∙ written-front array (replicate 144 0) long
-
-  pub read-room : n ≤ length scratch
-  read-room =
-      let zeros : length (replicate {A = ℕ} 144 0) ≡ 144 = length-replicate {A = ℕ} 144 0 in
-      let all : n ≤ 144 = sized-few (a .sized) in
-      omega (arith, ap length e, written-length array (replicate 144 0) long (omega arith))
-
-  pub read-length : n ≡ length (take n scratch)
-  read-length = sym (ap length read ∙ long)
-
-  pub read-addable : Addable (take n scratch) sums
-  read-addable = rw read (a .addable)
-
-  pub read-added : {factor : ℕ} {new : List ℕ} → Increased factor (take n scratch) sums new → Increased factor (arrayAt (decode b .arrays) k .counts) sums new
-  read-added i = rw read at i
+  pub read-added : {factor : ℕ} {new : List ℕ} → Increased factor (take (s .rows * s .columns) scratch) sums new
+      → Increased factor (arrayAt (decode b .arrays) k .counts) sums new
+  read-added i = rw (counts-read (a .sized) (a .there) e) at i
 
 -- array by array, each with its factor
 module _ {s : Sizes} {b : List ℕ} (z : Sized s b) where
@@ -155,22 +146,6 @@ module _ {s : Sizes} {b : List ℕ} (z : Sized s b) where
 
     pub added-all : k ≤ n → n ≤ k → SumsTo f (decode b .arrays) (cellCount (decode b)) (length (decode b .arrays)) sums
     added-all h q = let e : k ≡ length (decode b .arrays) = omega arith in rw e at p
-
--- the tally, place by place
-abbrev pub placeMet : List ℕ → List ℕ → ℕ → Bool
-placeMet tally sums i = eqb (getD tally i 0) (getD sums i 0)
-
-module _ (tally sums : List ℕ) {i x : ℕ} (e : x ≡ getD tally i 0) where
-  pub place-unmet : {m n : ℕ} → i < m → m ≤ n → (x ≡ getD sums i 0 → ⊥) → false ≡ tallyMet n tally sums
-  unfolding tallyMet
-  place-unmet {n = n} k l h = every-not (placeMet tally sums) n i (omega arith) (ne-eqb _ _ (λ q. h (e ∙ q)))
-
-  pub place-met : Passed (placeMet tally sums) i → x ≡ getD sums i 0 → Passed (placeMet tally sums) (i + 1)
-  place-met p h = passed-more p (eq-eqb _ _ (sym e ∙ h))
-
-pub places-met : (tally sums : List ℕ) {i n : ℕ} → Passed (placeMet tally sums) i → n ≤ i → true ≡ tallyMet n tally sums
-unfolding tallyMet
-places-met tally sums p h = passed-all p h
 
 -- over the numbers of each array in turn, the arrays of the taken numbers add up to the counts times how many are taken
 module _ (l : List Weighted) (bits : List ℕ) (i : ℕ) where
@@ -223,8 +198,11 @@ module _ {s : Sizes} {b bits tally : List ℕ} (f : Fitted s b bits tally) where
     room = omega (arith, weights, f .bits-room);
   }
 
-  pub tally-asked : Tally (s .rows * s .columns) tally
-  tally-asked = record { few = sized-few sized; room = f .tally-room }
+  pub tally-length : s .rows * s .columns ≡ length (take (s .rows * s .columns) tally)
+  tally-length = sym (length-take-le _ tally (f .tally-room))
+
+  pub tally-few : length (take (s .rows * s .columns) tally) ≤ 144
+  tally-few = omega (arith, tally-length, sized-few sized)
 
   -- with the numbers taken of each array, and the sums by them
   module _ {taken sums : List ℕ} (t : taken ≡ takenNumbers (decode b .arrays) bits) (a : ArraysAdded b taken sums) where
@@ -236,9 +214,12 @@ module _ {s : Sizes} {b bits tally : List ℕ} (f : Fitted s b bits tally) where
         (λ j m. ap (λ (x : ℕ). x * getD (arrayAt arrays j .counts) i 0) (sym (taken-at arrays bits j m) ∙ ap (λ (q : List ℕ). getD q j 0) (sym t)))
         ∙ sym (a .is i (omega (arith, cells-are sized)))
 
-    tally-test : every cells (λ i. eqb (getD tally i 0) (takenSum (decode b) bits i)) ≡ tallyMet cells tally sums
-    unfolding tallyMet
-    tally-test = every-ext cells _ _ (λ i h. ap (eqb (getD tally i 0)) (sum-is i h))
+    tally-test : every cells (λ i. eqb (getD tally i 0) (takenSum (decode b) bits i)) ≡ cellsMet (take cells tally) sums
+    unfolding cellsMet
+    tally-test =
+        every-ext cells _ (λ i. eqb (getD sums i 0) (getD (take cells tally) i 0))
+        (λ i h. rw (sum-is i h, getD-take cells tally i 0 h) (eqb-sym (getD tally i 0) (getD sums i 0)))
+        ∙ ap (λ (n : ℕ). every n (λ i. eqb (getD sums i 0) (getD (take cells tally) i 0))) tally-length
 
   module _ (n : ℕ) where
     fits-parts : fits (decode b) (recordOf n bits tally)
@@ -259,6 +240,6 @@ module _ {s : Sizes} {b bits tally : List ℕ} (f : Fitted s b bits tally) where
         count-off h = sym (fits-parts ∙ rw (spare, ne-eqb _ _ (λ q. h (ye ∙ count-by (s .denominator) bits ∙ sym q))))
 
         pub fits-is : y ≡ n → {taken sums : List ℕ} → taken ≡ takenNumbers (decode b .arrays) bits → ArraysAdded b taken sums
-            → (t : Bool) → t ≡ tallyMet (s .rows * s .columns) tally sums → t ≡ fits (decode b) (recordOf n bits tally)
+            → (t : Bool) → t ≡ cellsMet (take (s .rows * s .columns) tally) sums → t ≡ fits (decode b) (recordOf n bits tally)
         fits-is h g a t e =
             e ∙ sym (tally-test g a) ∙ sym (fits-parts ∙ rw (spare, eq-eqb _ _ (sym h ∙ ye ∙ count-by (s .denominator) bits)))

@@ -1,14 +1,12 @@
 -- What inner functions are held to: parts of the definitions of Record. No public contract cites them. Assumes nothing.
 use mathlib.Core.Path.{_≡_}
-use mathlib.Core.Bool.{Bool}
 use mathlib.Core.List.{List}
 use mathlib.Core.Option.{Option}
 use Prim.Native.Nat.{ℕ, _+_, _*_, _<_, _≤_}
 use lib.ListN.{length, getD, replicate}
-use lib.Dec.{eqb}
-use Rattle.base.specs.Lists.{tabulate, sumTo, every}
+use Rattle.base.specs.Lists.{tabulate, sumTo}
 use Rattle.base.specs.Buffers.{written}
-use Rattle.table.specs.Table.{maxCells, maxArrays, maxDenominator}
+use Rattle.table.specs.Table.{maxArrays, maxDenominator}
 use Rattle.refusals.specs.declared.Refusal.{Refusal}
 use Rattle.refusals.specs.Due.{refusedOr}
 use Rattle.form.specs.declared.Sizes.{Sizes}
@@ -60,15 +58,6 @@ pub record ArrayAddable (s : Sizes) (b : List ℕ) (k : ℕ) (sums : List ℕ) :
 -- for each cell the counts of all arrays, each times the number for it, added up
 abbrev pub ArraysAdded : List ℕ → List ℕ → List ℕ → Type 0
 ArraysAdded b taken sums = SumsTo (λ j. getD taken j 0) (decode b .arrays) (cellCount (decode b)) (length (decode b .arrays)) sums
-
--- a tally of n cells, of as many as a table can have
-pub record Tally (n : ℕ) (tally : List ℕ) : Type 0 where
-  pub few : n ≤ maxCells
-  pub room : n ≤ length tally
-
--- the first n numbers of the tally are the sums
-unfoldable pub tallyMet : ℕ → List ℕ → List ℕ → Bool
-tallyMet n tally sums = every n (λ i. eqb (getD tally i 0) (getD sums i 0))
 
 -- an opened plan, with its sizes, and buffers not shorter than a record of it
 pub record Fitted (s : Sizes) (b bits tally : List ℕ) : Type 0 where

@@ -5,13 +5,13 @@ ghost use Rattle.form.specs.Form.{decode};
 ghost use Rattle.opening.specs.Weighted.{Increased};
 ghost use Rattle.form.specs.Parts.{Sized};
 ghost use Rattle.campaign.specs.Record.{recordOf, fits};
-ghost use Rattle.campaign.specs.Parts.{Numbered, takenNumbers, ArrayAddable, ArraysAdded, Tally, tallyMet, Fitted};
+ghost use Rattle.campaign.specs.Parts.{Numbered, takenNumbers, ArrayAddable, ArraysAdded, Fitted};
 use crate::bitset::bits_set;
-use base::wide;
 use form::Sizes;
 use form::read::read_array;
 use form::read::weight;
 use opening::weighted::add_weighted;
+use opening::weighted::cells_met;
 
 // How many numbers of each array are taken.
 fn taken_numbers(plan: &[u8], s: Sizes, bits: &[u8]) -> [u32; 170]
@@ -51,19 +51,6 @@ fn tally_of(plan: &[u8], s: Sizes, taken: &[u32; 170]) -> [u64; 144]
     sums
 }
 
-// Whether the tally is the sums, cell by cell.
-fn tally_met(tally: &[u32], cells: usize, sums: &[u64; 144]) -> bool
-    requires { ⌜ Tally cells (now tally) ⌝ }
-    ensures { λ r. ⌜ r ≡ tallyMet cells (now (tally .entry)) (now (sums .entry)) ⌝ }
-{
-    for i in 0..cells {
-        if wide(tally[i]) != sums[i] {
-            return false;
-        }
-    }
-    true
-}
-
 // Whether the record fits the opened plan. The time is that of the D bits and of the counts of the K arrays.
 pub fn fits(plan: &[u8], s: Sizes, taken: u32, bits: &[u8], tally: &[u32]) -> bool
     requires { ⌜ Fitted s (now plan) (now bits) (now tally) ⌝ }
@@ -79,5 +66,5 @@ pub fn fits(plan: &[u8], s: Sizes, taken: u32, bits: &[u8], tally: &[u32]) -> bo
     }
     let numbers = taken_numbers(plan, s, bits);
     let sums = tally_of(plan, s, &numbers);
-    tally_met(tally, s.rows * s.columns, &sums)
+    cells_met(&tally[..s.rows * s.columns], &sums)
 }

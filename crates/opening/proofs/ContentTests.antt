@@ -5,18 +5,18 @@ use mathlib.Core.List.{List, [], map}
 use Prim.Native.Nat.{ℕ, _+_, _*_, _<_, _≤_}
 use native.Mathlib.Decide.{decLt}
 use native.Mathlib.Omega.{arith}
-use lib.ListN.{length, getD, take, replicate, length-replicate, List·getD-eq-default}
+use lib.ListN.{length, getD, take, replicate, List·getD-eq-default}
 use lib.Dec.{leb, eqb}
 use mir.Val.{Fits}
 use mir.Syntax.{w64}
-use borrow.Author.Tests.{le-leb, lt-leb, eq-eqb, ne-eqb, leb-true, not-true, not-false}
+use borrow.Author.Tests.{le-leb, lt-leb, leb-true, not-true, not-false}
 use Rattle.base.specs.Lists.{sum, sumTo, all, every}
 use Rattle.base.specs.Buffers.{written}
 use Rattle.base.proofs.Lists.{all-elim, and-left, and-right}
 use Rattle.base.proofs.Sums.{sum-places}
 use Rattle.base.proofs.SumLoops.{sum-more}
 use Rattle.base.proofs.Every.{Passed, passed-none, passed-more, passed-all, every-not, every-ext, every-place}
-use Rattle.base.proofs.Buffers.{written-front, written-length}
+use Rattle.base.proofs.Buffers.{written-front}
 use Rattle.table.specs.Table.{total}
 use Rattle.table.specs.Whole.{roundsTo}
 use Rattle.table.specs.Check.{cellsWithin}
@@ -27,18 +27,13 @@ use Rattle.form.specs.Plan.{Weighted, Plan, arrayAt, cellCount}
 use Rattle.form.specs.Form.{decode}
 use Rattle.form.proofs.Readings.{counts-length, cells-length}
 use Rattle.opening.specs.Open.{heldTo, held, weighted, consistent}
-use Rattle.opening.specs.Lines.{Bounds, entriesBetween, cellsMet, Counts}
-use Rattle.opening.specs.Weighted.{Addable, Increased}
+use Rattle.opening.specs.Lines.{Bounds, entriesBetween, Counts}
+use Rattle.opening.specs.Weighted.{Addable, Increased, cellsMet}
 use Rattle.form.specs.Parts.{Sized}
 use Rattle.opening.specs.Parts.{weightsRight, arraysRight, weightsBefore, weightAt, SumsTo, ArraysTo, ArrayTested, ArraysTested, TableOf}
 use Rattle.form.proofs.Sizing.{arrays-are, cells-are, rows-are, columns-are, denominator-is, sized-few, sized-arrays, sized-some, sized-denominator, sized-shape}
 use Rattle.opening.proofs.Weighting.{sums-none, sums-addable, sums-more}
-
--- a scratch of 144 numbers into which n numbers were read
-scratch-room : (x : List ℕ) {scratch : List ℕ} {n : ℕ} → length x ≡ n → n ≤ 144 → scratch ≡ written x (replicate 144 0) → n ≤ length scratch
-scratch-room x e h q =
-    let zeros : length (replicate {A = ℕ} 144 0) ≡ 144 = length-replicate {A = ℕ} 144 0 in
-    omega (arith, ap length q, written-length x (replicate 144 0) e (omega arith))
+use Rattle.opening.proofs.Scratch.{scratch-room, counts-read}
 
 -- the first k weights are at least 1, and s is their sum
 pub record Weighed (l : List Weighted) (k s : ℕ) : Type 0 where
@@ -91,24 +86,12 @@ module _ {s : Sizes} {b : List ℕ} (z : Sized s b) where
     abbrev array : List ℕ
     array = arrayAt (decode b .arrays) k .counts
 
-    long : length array ≡ n
-    long = counts-length b k (rw (arrays-are z) h) ∙ cells-are z
-
-    read : take n scratch ≡ array
-    read = ap (take n) e ∙ written-front array (replicate 144 0) long
-
-    pub read-within : n ≤ length scratch
-    read-within = scratch-room array long (sized-few z) e
-
-    pub read-length : n ≡ length (take n scratch)
-    read-length = sym (ap length read ∙ long)
-
     module _ {low high sums : List ℕ} (t : ArraysTo s b low high k sums) where
       pub read-addable : Addable (take n scratch) sums
-      read-addable = rw read (sums-addable (t .sums-are) (counts-length b k (rw (arrays-are z) h)) (omega (arith, cells-are z, sized-few z)) (omega (arith, sized-arrays z)))
+      read-addable = rw (counts-read z h e) (sums-addable (t .sums-are) (counts-length b k (rw (arrays-are z) h)) (omega (arith, cells-are z, sized-few z)) (omega (arith, sized-arrays z)))
 
       pub read-counts : Counts (s .rows) (s .columns) (take n scratch) low high
-      read-counts = rw read (record { shape = sized-shape z array (counts-length b k (rw (arrays-are z) h)); room = t .bounds .room })
+      read-counts = rw (counts-read z h e) (record { shape = sized-shape z array (counts-length b k (rw (arrays-are z) h)); room = t .bounds .room })
 
       entries-held : entriesBetween (s .rows) (s .columns) array low high ≡ held (decode b) (arrayAt (decode b .arrays) k)
       unfolding entriesBetween
@@ -123,29 +106,9 @@ module _ {s : Sizes} {b : List ℕ} (z : Sized s b) where
           → r ≡ entriesBetween (s .rows) (s .columns) (take n scratch) low high
           → ArrayTested b k r new
       array-tested {w} {r} {new} q i a = record {
-        answer = (rw read at a) ∙ entries-held;
-        sums-are = sums-more (t .sums-are) (counts-length b k (rw (arrays-are z) h)) (rw read at i) q refl;
+        answer = (rw (counts-read z h e) at a) ∙ entries-held;
+        sums-are = sums-more (t .sums-are) (counts-length b k (rw (arrays-are z) h)) (rw (counts-read z h e) at i) q refl;
       }
-
--- the first i cells are their sums
-pub record CellsMetTo (cells sums : List ℕ) (i : ℕ) : Type 0 where
-  pub met : Passed (λ j. eqb (getD sums j 0) (getD cells j 0)) i
-
-pub cells-none-met : (cells sums : List ℕ) → CellsMetTo cells sums 0
-cells-none-met cells sums = record { met = passed-none _ }
-
--- a cell that is its sum, and one that is not
-module _ (cells sums : List ℕ) {i x : ℕ} (e : x ≡ getD cells i 0) where
-  pub cell-unmet : i < length cells → (getD sums i 0 ≡ x → ⊥) → false ≡ cellsMet cells sums
-  unfolding cellsMet
-  cell-unmet l h = every-not (λ j. eqb (getD sums j 0) (getD cells j 0)) (length cells) i l (ne-eqb _ _ (λ q. h (q ∙ sym e)))
-
-  pub cell-met : CellsMetTo cells sums i → getD sums i 0 ≡ x → CellsMetTo cells sums (i + 1)
-  cell-met p h = record { met = passed-more (p .met) (eq-eqb _ _ (h ∙ e)) }
-
-pub cells-all-met : {cells sums : List ℕ} {i : ℕ} → CellsMetTo cells sums i → length cells ≤ i → true ≡ cellsMet cells sums
-unfolding cellsMet
-cells-all-met p h = passed-all (p .met) h
 
 -- the loop over the arrays
 abbrev pub heldAt : List ℕ → ℕ → Bool
@@ -185,16 +148,13 @@ module _ {s : Sizes} {b cells : List ℕ} (t : TableOf s b cells) where
     sums-are = sums-none _ _ _ (omega (arith, cells-are z, sized-few z));
   }
 
-  pub table-few : length cells < 145
+  pub table-few : length cells ≤ 144
   table-few = omega (arith, table-shape .cells, sized-few z)
 
   module _ {x : Bool} {sums : List ℕ} (a : ArraysTested b x sums) where
     pub arrays-unheld : not x ≡ true → false ≡ arraysRight (decode b)
     unfolding arraysRight
     arrays-unheld h = simp (sym (a .answer) ∙ not-true x h)
-
-    pub sums-long : not x ≡ false → length sums ≡ 144
-    sums-long h = a .sums-are (not-false x h) .len
 
     pub arrays-met : not x ≡ false → {y : Bool} → y ≡ cellsMet cells sums → y ≡ arraysRight (decode b)
     unfolding arraysRight cellsMet

@@ -13,7 +13,7 @@ use mir.Syntax.{w32, w64}
 use borrow.Author.Tests.{le-leb, lt-leb, not-true, not-false}
 use Rattle.base.specs.Lists.{tabulate, every}
 use Rattle.base.specs.Fill.{Filled}
-use Rattle.base.proofs.Lists.{length-tabulate, getD-tabulate, and-both}
+use Rattle.base.proofs.Lists.{length-tabulate, getD-tabulate}
 use Rattle.base.proofs.SumLoops.{Summed, summed-none, summed-more, summed-all}
 use Rattle.base.proofs.Every.{sum-none, every-add, every-ext}
 use Rattle.base.proofs.Filling.{filled-none, filled-more, filled-to, filled-ext, filled-join}

@@ -1,5 +1,6 @@
 mod EntryLines
 pub mod Weighting
+pub mod Scratch
 pub mod Belonging
 pub mod Opening
 pub mod Opens

@@ -1,19 +1,23 @@
--- Sums of arrays times a factor, array by array. Assumes nothing.
-use mathlib.Core.Path.{_≡_, ap, ap₂, _∙_}
+-- Sums of arrays times a factor, array by array, and what they are compared with. Assumes nothing.
+use mathlib.Core.Path.{_≡_, sym, ap, ap₂, _∙_}
+use mathlib.Core.Bool.{true, false}
 use mathlib.Core.List.{List}
 use Prim.Native.Nat.{ℕ, _+_, _*_, _<_, _≤_}
 use native.Mathlib.Nat.{mul-le-mul, mul-le-mul-right, add-mul, one-mul}
 use native.Mathlib.Decide.{decLt}
 use native.Mathlib.Omega.{arith}
 use lib.ListN.{length, getD, set, replicate, length-replicate, getD-replicate}
+use lib.Dec.{eqb}
 use mir.Val.{Fits}
 use mir.Syntax.{w64}
+use borrow.Author.Tests.{eq-eqb, ne-eqb}
 use Rattle.base.specs.Lists.{sumTo}
 use Rattle.base.specs.Fill.{Filled}
 use Rattle.base.proofs.SumLoops.{sum-more}
+use Rattle.base.proofs.Every.{Passed, passed-none, passed-more, passed-all, every-not}
 use Rattle.base.proofs.Filling.{filled-none, front-more, filled-to}
 use Rattle.form.specs.Plan.{Weighted, arrayAt}
-use Rattle.opening.specs.Weighted.{maxProduct, Addable, Increased}
+use Rattle.opening.specs.Weighted.{maxProduct, Addable, Increased, cellsMet}
 use Rattle.opening.specs.Parts.{SumsTo}
 
 pub product-small : {w x : ℕ} → w < 4294967296 → x < 65536 → w * x ≤ maxProduct
@@ -90,3 +94,23 @@ module _ {f : ℕ → ℕ} {l : List Weighted} {n k : ℕ} {sums : List ℕ} (p 
         omega (arith, at, product, p .is j h, sum-more (λ m. f m * getD (arrayAt l m .counts) j 0) k);
     small = λ j h. omega (arith, i .small j (omega arith), p .small j h, add-mul k 1 maxProduct, one-mul maxProduct);
   }
+
+-- the first i cells are their sums
+pub record CellsMetTo (cells sums : List ℕ) (i : ℕ) : Type 0 where
+  pub met : Passed (λ j. eqb (getD sums j 0) (getD cells j 0)) i
+
+pub cells-none-met : (cells sums : List ℕ) → CellsMetTo cells sums 0
+cells-none-met cells sums = record { met = passed-none _ }
+
+-- a cell that is its sum, and one that is not
+module _ (cells sums : List ℕ) {i x : ℕ} (e : x ≡ getD cells i 0) where
+  pub cell-unmet : i < length cells → (getD sums i 0 ≡ x → ⊥) → false ≡ cellsMet cells sums
+  unfolding cellsMet
+  cell-unmet l h = every-not (λ j. eqb (getD sums j 0) (getD cells j 0)) (length cells) i l (ne-eqb _ _ (λ q. h (q ∙ sym e)))
+
+  pub cell-met : CellsMetTo cells sums i → getD sums i 0 ≡ x → CellsMetTo cells sums (i + 1)
+  cell-met p h = record { met = passed-more (p .met) (eq-eqb _ _ (h ∙ e)) }
+
+pub cells-all-met : {cells sums : List ℕ} {i : ℕ} → CellsMetTo cells sums i → length cells ≤ i → true ≡ cellsMet cells sums
+unfolding cellsMet
+cells-all-met p h = passed-all (p .met) h

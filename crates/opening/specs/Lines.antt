@@ -4,7 +4,7 @@ use mathlib.Core.Bool.{Bool, cond, _&&_}
 use mathlib.Core.List.{List, []}
 use Prim.Native.Nat.{ℕ, _+_, _*_, _<_, _≤_}
 use lib.ListN.{length, getD}
-use lib.Dec.{leb, eqb}
+use lib.Dec.{leb}
 use Rattle.base.specs.Lists.{every}
 use Rattle.base.specs.Fill.{Filled}
 use Rattle.table.specs.Table.{maxColumns, maxCells, maxEntries, maxDenominator, maxExpected, places, total}
@@ -73,10 +73,6 @@ linesBetween n low high k from = every (k .count) (λ l. between (getD low (from
 
 unfoldable pub entriesBetween : ℕ → ℕ → List ℕ → List ℕ → List ℕ → Bool
 entriesBetween r c n low high = every (length (heldTo r c)) (λ e. between (getD low e 0) (getD high e 0) (entryOf r c n e))
-
--- each cell is its sum
-unfoldable pub cellsMet : List ℕ → List ℕ → Bool
-cellsMet cells sums = every (length cells) (λ i. eqb (getD sums i 0) (getD cells i 0))
 
 -- an array of r by c counts, and room
 pub record Counts (r c : ℕ) (n low high : List ℕ) : Type 0 where

@@ -1,15 +1,14 @@
 // The contents of a plan that is laid out: refusal 6.
 ghost use mathlib.Core.Path.{_≡_};
 ghost use Prim.Native.Nat.{_<_};
-ghost use lib.ListN.{length};
 ghost use Rattle.form.specs.Form.{decode};
 ghost use Rattle.opening.specs.Open.{consistent};
-ghost use Rattle.opening.specs.Lines.{cellsMet};
 ghost use Rattle.form.specs.Parts.{Sized};
 ghost use Rattle.opening.specs.Parts.{weightsRight, arraysRight, ArraysTo, ArrayTested, ArraysTested, TableOf};
 use crate::lines::bounds;
 use crate::lines::held;
 use crate::weighted::add_weighted;
+use crate::weighted::cells_met;
 use base::wide;
 use form::Sizes;
 use form::read::read_array;
@@ -67,21 +66,6 @@ fn arrays_held(
         if !array_held(plan, s, k, low, high, sums) {
             return false;
         }
-    }
-    true
-}
-
-// Whether each cell is its sum.
-fn cells_met(cells: &[u32], sums: &[u64; 144]) -> bool
-    requires { ⌜ (length (now cells) < 145) × (length (now sums) ≡ 144) ⌝ }
-    ensures { λ r. ⌜ r ≡ cellsMet (now (cells .entry)) (now (sums .entry)) ⌝ }
-{
-    let mut i = 0;
-    while i < cells.len() {
-        if sums[i] != wide(cells[i]) {
-            return false;
-        }
-        i += 1;
     }
     true
 }

@@ -1,5 +1,9 @@
-// Sums of arrays times a factor.
-ghost use Rattle.opening.specs.Weighted.{Addable, Increased};
+// Sums of arrays times a factor, and what they are compared with.
+ghost use mathlib.Core.Path.{_≡_};
+ghost use Prim.Native.Nat.{_≤_};
+ghost use lib.ListN.{length};
+ghost use Rattle.table.specs.Table.{maxCells};
+ghost use Rattle.opening.specs.Weighted.{Addable, Increased, cellsMet};
 use base::convert::u16_to_u64;
 use base::wide;
 
@@ -12,4 +16,19 @@ pub fn add_weighted(factor: u32, counts: &[u16], sums: &mut [u64; 144])
     for i in 0..counts.len() {
         sums[i] = sums[i] + f * u16_to_u64(counts[i]);
     }
+}
+
+// Whether each cell is its sum.
+pub fn cells_met(cells: &[u32], sums: &[u64; 144]) -> bool
+    requires { ⌜ length (now cells) ≤ maxCells ⌝ }
+    ensures { λ r. ⌜ r ≡ cellsMet (now (cells .entry)) (now (sums .entry)) ⌝ }
+{
+    let mut i = 0;
+    while i < cells.len() {
+        if sums[i] != wide(cells[i]) {
+            return false;
+        }
+        i += 1;
+    }
+    true
 }

@@ -1,5 +1,6 @@
 use Rattle.form.proofs.Sizing.{sized-fits}
-use Rattle.campaign.proofs.Fitting.{scratch-asked, read-room, read-length, read-addable, read-added}
+use Rattle.opening.proofs.Scratch.{read-within, read-length}
+use Rattle.campaign.proofs.Fitting.{scratch-asked, read-addable, read-added}
 use borrow.Author.Needs.{needs}
 use Rattle.campaign.proofs.fit.add_array.Statement.{statement}
 use Rattle.campaign.proofs.fit.add_array.Tie as tie
@@ -11,7 +12,7 @@ add-array-spec =
     (λ c. search (needs, sized-fits))
     (λ c. search needs)
     (λ c κs. search (needs, scratch-asked))
-    (λ c. search (needs, read-room))
+    (λ c. search (needs, read-within))
     (λ c. search (needs, read-length))
     (λ c κs. search (needs, read-addable))
     (λ c. search (needs, read-added)))

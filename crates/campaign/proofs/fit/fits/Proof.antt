@@ -1,6 +1,6 @@
 use native.Mathlib.Omega.{arith}
 use Rattle.opening.proofs.Opening.{sizes-product}
-use Rattle.campaign.proofs.Fitting.{spare-asked, count-asked, numbered, sized, tally-asked, spare-set, count-off, fits-is}
+use Rattle.campaign.proofs.Fitting.{spare-asked, count-asked, numbered, sized, tally-length, tally-few, spare-set, count-off, fits-is}
 use borrow.Author.Needs.{needs}
 use Rattle.campaign.proofs.fit.fits.Statement.{statement}
 use Rattle.campaign.proofs.fit.fits.Tie as tie
@@ -23,5 +23,6 @@ fits-spec =
     (λ c κs. search (needs, numbered))
     (λ c κs. search (needs, sized))
     (λ c. search (needs, sizes-product))
-    (λ c κs. search (needs, tally-asked))
+    (λ c. search (needs, tally-length))
+    (λ c κs. search (needs, tally-few))
     (λ c. search (needs, fits-is)))

@@ -1,5 +1,6 @@
 use Rattle.form.proofs.Sizing.{sized-fits, sized-few, has-array, has-counts}
-use Rattle.opening.proofs.ContentTests.{read-within, read-length, read-addable, read-counts, array-tested}
+use Rattle.opening.proofs.Scratch.{read-within, read-length}
+use Rattle.opening.proofs.ContentTests.{read-addable, read-counts, array-tested}
 use borrow.Author.Needs.{needs}
 use Rattle.opening.proofs.content.array_held.Statement.{statement}
 use Rattle.opening.proofs.content.array_held.Tie as tie
@@ -15,35 +16,11 @@ read-array-requires c κs =
 weight-requires : tie.Need-weight-requires
 weight-requires c κs = search (needs, has-array)
 
-array-share-prefix-counts : tie.Need-array-share-prefix-counts
-array-share-prefix-counts c =
-    let read = c .before .before in
-    let pre = read .before .before .before .before .pre in
-    read-within (pre .0 .sized) (pre .1) (read .read-array .ensures)
-
-slice-aggregate-add-weighted : tie.Need-slice-aggregate-add-weighted
-slice-aggregate-add-weighted c =
-    let read = c .before .before .before in
-    let pre = read .before .before .before .before .pre in
-    read-length (pre .0 .sized) (pre .1) (read .read-array .ensures)
-
 add-weighted-requires : tie.Need-add-weighted-requires
 add-weighted-requires c κs =
     let read = c .before .before .before .before in
     let pre = read .before .before .before .before .pre in
     read-addable (pre .0 .sized) (pre .1) (read .read-array .ensures) (pre .0)
-
-array-share-prefix-counts-2 : tie.Need-array-share-prefix-counts-2
-array-share-prefix-counts-2 c =
-    let read = c .before .before .before .before .before in
-    let pre = read .before .before .before .before .pre in
-    read-within (pre .0 .sized) (pre .1) (read .read-array .ensures)
-
-slice-aggregate-held : tie.Need-slice-aggregate-held
-slice-aggregate-held c =
-    let read = c .before .before .before .before .before .before in
-    let pre = read .before .before .before .before .pre in
-    read-length (pre .0 .sized) (pre .1) (read .read-array .ensures)
 
 held-requires : tie.Need-held-requires
 held-requires c κs =
@@ -67,10 +44,10 @@ array-held-spec =
     (λ c. search needs)
     read-array-requires
     weight-requires
-    array-share-prefix-counts
-    slice-aggregate-add-weighted
+    (λ c. search (needs, read-within))
+    (λ c. search (needs, read-length))
     add-weighted-requires
-    array-share-prefix-counts-2
-    slice-aggregate-held
+    (λ c. search (needs, read-within))
+    (λ c. search (needs, read-length))
     held-requires
     returns)

@@ -1,5 +1,5 @@
 use mathlib.Core.Path.{refl}
-use Rattle.opening.proofs.ContentTests.{table-shape, table-arrays, table-few, arrays-unheld, sums-long, arrays-met}
+use Rattle.opening.proofs.ContentTests.{table-shape, table-arrays, table-few, arrays-unheld, arrays-met}
 use borrow.Author.Needs.{needs}
 use Rattle.opening.proofs.content.arrays_right.Statement.{statement}
 use Rattle.opening.proofs.content.arrays_right.Tie as tie
@@ -23,13 +23,6 @@ returns c =
     let pre = held .before .before .before .before .before .before .before .before .before .before .pre in
     arrays-unheld pre (held .arrays-held .ensures) (c .if1 .taken)
 
-cells-met-requires : tie.Need-cells-met-requires
-cells-met-requires c κs =
-    let tested = c .before in
-    let held = tested .before in
-    let pre = held .before .before .before .before .before .before .before .before .before .before .pre in
-    (table-few pre, sums-long pre (held .arrays-held .ensures) (tested .if1 .left))
-
 returns-2 : tie.Need-returns-2
 returns-2 c =
     let tested = c .before .before in
@@ -45,5 +38,5 @@ arrays-right-spec =
     bounds-requires
     arrays-held-requires
     returns
-    cells-met-requires
+    (λ c κs. search (needs, table-few))
     returns-2)

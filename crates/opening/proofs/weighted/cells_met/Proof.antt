@@ -1,10 +1,10 @@
 use Prim.Native.Nat.{_≤_, _-_}
 use lib.ListN.{length}
-use Rattle.opening.proofs.ContentTests.{CellsMetTo, cells-none-met, cells-all-met, cell-met, cell-unmet}
+use Rattle.opening.proofs.Weighting.{CellsMetTo, cells-none-met, cells-all-met, cell-met, cell-unmet}
 use native.Mathlib.Omega.{arith}
 use borrow.Author.Needs.{needs}
-use Rattle.opening.proofs.content.cells_met.Statement.{statement}
-use Rattle.opening.proofs.content.cells_met.Tie as tie
+use Rattle.opening.proofs.weighted.cells_met.Statement.{statement}
+use Rattle.opening.proofs.weighted.cells_met.Tie as tie
 
 abbrev Inv-loop : tie.InvT-loop
 Inv-loop cells sums i₀ i = (i ≤ length cells) × CellsMetTo cells sums i
