@@ -13,7 +13,7 @@ use Rattle.sets.specs.Set.{ind, on, has, Single, With, Without}
 use Rattle.margins.specs.Matrix.{nthCell}
 use Rattle.margins.specs.Level.{Stuck}
 use Rattle.margins.specs.Move.{samePlace, rowOnes, colOnes, NotBoth, OneMore}
-use Rattle.margins.specs.Board.{Board, boardOf, Places, rowSum, colSum, Flow, Allowed, Fixed, First}
+use Rattle.margins.specs.Board.{Board, boardOf, Places, rowSum, colSum, Flow, Allowed, Fixed, First, PlaceFixed}
 use Rattle.base.proofs.Sums.{sum-ext, sum-add}
 use Rattle.sets.proofs.Indicators.{ind-same, ind-eq}
 use Rattle.margins.proofs.Paths.{place-swap, place-other-row, place-other-col, place-in-row, gain-row, gain-col, taken, put}
@@ -85,15 +85,15 @@ module _ {up down one : List ℕ} {i j : ℕ} (m : Places up down one) (hi : i <
     is-up : (x y : ℕ) → has (set up i r) x y + samePlace x i y j ≡ has up x y
     is-up = taken up i j r (m .up-len) hi w
 
-    pub fix-up : Places (set up i r) down one × Fixed (boardOf up down one) (boardOf (set up i r) down one) i j
-    fix-up = (
-      record {
+    pub fix-up : PlaceFixed up down one (set up i r) down one i j
+    fix-up = record {
+      places = record {
         up-len = length-set up i r ∙ m .up-len;
         down-len = m .down-len;
         one-len = m .one-len;
         single = λ p q hp hq. omega (arith, m .single p q hp hq, is-up p q);
-      },
-      record {
+      };
+      fixed = record {
         rows = λ p. omega (arith, row-split up down one p, row-split (set up i r) down one p);
         cols = λ q. omega (arith, col-split up down one q, col-split (set up i r) down one q);
         here = omega (arith, is-up i j, place-same i j, m .single i j hi hj);
@@ -101,15 +101,15 @@ module _ {up down one : List ℕ} {i j : ℕ} (m : Places up down one) (hi : i <
         fewer = λ p q. omega (arith, is-up p q);
         kept = λ p q hp hq z. refl;
         least = λ x f. omega (arith, m .single i j hi hj);
-      },
-    )
+      };
+    }
 
   -- a place that is fixed
-  pub fix-none : {u d : ℕ} → u ≡ has up i j → (u ≡ 1 → ⊥) → d ≡ has down j i → (d ≡ 1 → ⊥) → Places up down one × Fixed (boardOf up down one) (boardOf up down one) i j
+  pub fix-none : {u d : ℕ} → u ≡ has up i j → (u ≡ 1 → ⊥) → d ≡ has down j i → (d ≡ 1 → ⊥) → PlaceFixed up down one up down one i j
   fix-none eu nu ed nd =
-      let z : has up i j + has down j i ≡ 0 = omega (arith, m .single i j hi hj) in (
-        m,
-        record {
+      let z : has up i j + has down j i ≡ 0 = omega (arith, m .single i j hi hj) in record {
+        places = m;
+        fixed = record {
           rows = λ p. refl;
           cols = λ q. refl;
           here = z;
@@ -117,8 +117,8 @@ module _ {up down one : List ℕ} {i j : ℕ} (m : Places up down one) (hi : i <
           fewer = λ p q. omega arith;
           kept = λ p q hp hq n. refl;
           least = λ x f. omega (arith, f .fixed i j hi hj z);
-        },
-      )
+        };
+      }
 
   -- a place that is free and 1
   module _ {r : ℕ} (e : has down j i ≡ 1) (w : Without (getD down j 0) i r) where
@@ -140,10 +140,10 @@ module _ {up down one : List ℕ} {i j : ℕ} (m : Places up down one) (hi : i <
     cols-down q = omega (arith, col-split up down one q, col-split up (set down j r) one q, gain-col (set down j r) down i j hi hj (λ x y. sym (is-down x y)) q)
 
     -- it can be 0
-    pub fix-zero : {up' down' : List ℕ} {ends end : ℕ} → Single j ends → on ends end ≡ 1 → OneMore up (set down j r) up' down' i end → Places up' down' one × Fixed (boardOf up down one) (boardOf up' down' one) i j
-    fix-zero {up'} {down'} {ends} {end} l h v = (
-      places-more places-down v,
-      record {
+    pub fix-zero : {up' down' : List ℕ} {ends end : ℕ} → Single j ends → on ends end ≡ 1 → OneMore up (set down j r) up' down' i end → PlaceFixed up down one up' down' one i j
+    fix-zero {up'} {down'} {ends} {end} l h v = record {
+      places = places-more places-down v;
+      fixed = record {
         rows = λ p. omega (arith, row-more places-down v p, rows-down p);
         cols = λ q. let c = rw to at (col-more places-down v q) in omega (arith, cols-down q);
         here = none;
@@ -151,8 +151,8 @@ module _ {up down one : List ℕ} {i j : ℕ} (m : Places up down one) (hi : i <
         fewer = λ p q. omega (arith, v .free p q, is-down p q);
         kept = λ p q hp hq z. omega (arith, v .free p q, is-down p q);
         least = λ x f. omega (arith, none, m .single i j hi hj);
-      },
-    )
+      };
+    }
       where
         to : end ≡ j
         to = ind-eq end j (sym (l .is end) ∙ h)
@@ -170,15 +170,15 @@ module _ {up down one : List ℕ} {i j : ℕ} (m : Places up down one) (hi : i <
 
     -- it cannot
     pub fix-one : {ends r' : ℕ} → Single j ends → Stuck up (set down j r) ends i → With (getD one i 0) j r'
-        → Places up (set down j r) (set one i r') × Fixed (boardOf up down one) (boardOf up (set down j r) (set one i r')) i j
-    fix-one {ends} {r'} l k v = (
-      record {
+        → PlaceFixed up down one up (set down j r) (set one i r') i j
+    fix-one {ends} {r'} l k v = record {
+      places = record {
         up-len = m .up-len;
         down-len = places-down .down-len;
         one-len = length-set one i r' ∙ m .one-len;
         single = λ p q hp hq. omega (arith, m .single p q hp hq, is-down p q, is-one p q);
-      },
-      record {
+      };
+      fixed = record {
         rows = row-same (boardOf up down one) (boardOf up (set down j r) (set one i r')) bits;
         cols = col-same (boardOf up down one) (boardOf up (set down j r) (set one i r')) bits;
         here = omega (arith, is-down i j, place-same i j, m .single i j hi hj);
@@ -186,8 +186,8 @@ module _ {up down one : List ℕ} {i j : ℕ} (m : Places up down one) (hi : i <
         fewer = λ p q. omega (arith, is-down p q);
         kept = λ p q hp hq z. bits p q;
         least = λ x f. least x f (x i j) refl;
-      },
-    )
+      };
+    }
       where
         is-one : (x y : ℕ) → has (set one i r') x y ≡ has one x y + samePlace x i y j
         is-one = put one i j r' (m .one-len) hi v

@@ -10,7 +10,7 @@ use lib.ListN.{length, getD, set, length-set}
 use lib.Seq.{getD-set-same, getD-set-other}
 use Rattle.base.specs.Lists.{sumTo}
 use Rattle.sets.specs.Set.{on, has, Single, Some, Meet, Minus, Via, UnionOf}
-use Rattle.margins.specs.Level.{Levels, SearchFound}
+use Rattle.margins.specs.Level.{Levels, SearchFound, Nowhere}
 use Rattle.base.proofs.Sums.{sum-lt, sum-ones, sum-term}
 use Rattle.sets.proofs.Indicators.{ind-same, ind-other}
 use Rattle.sets.proofs.Members.{on-le, on-zero, on-all, nonempty}
@@ -103,16 +103,16 @@ module _ {up down rows cols : List ℕ} {ends start k front rows-left cols-left 
   }
 
   -- no column is new
-  pub progress-shut : next ≡ 0 → (column level : ℕ) → (column ≡ 13) × (level ≡ 0) → SearchFound up down ends start rows cols column level
+  pub progress-shut : next ≡ 0 → (column level : ℕ) → Nowhere column level → SearchFound up down ends start rows cols column level
   progress-shut e column level n =
-      stuck column level (n .0) t (λ p q hp hq. omega (arith, t .ups p q hp hq, a .all p q, b .is q, empty q, on-le front p, on-le cols-left q, on-le (getD up p 0) q))
+      stuck column level (n .no-column) t (λ p q hp hq. omega (arith, t .ups p q hp hq, a .all p q, b .is q, empty q, on-le front p, on-le cols-left q, on-le (getD up p 0) q))
     where
       empty : (q : ℕ) → on next q ≡ 0
       empty q = ap (λ (n : ℕ). on n q) e ∙ on-zero q
 
 -- every column is reached
-pub progress-full : {up down rows cols : List ℕ} {ends start k front rows-left cols-left : ℕ} → Progress up down ends start rows cols k front rows-left cols-left → 13 ≤ k → (column level : ℕ) → (column ≡ 13) × (level ≡ 0) → SearchFound up down ends start rows cols column level
-progress-full {up} {cols-left = cols-left} t h column level n = stuck column level (n .0) t (λ p q hp hq. omega (arith, none q hq, on-le (getD up p 0) q))
+pub progress-full : {up down rows cols : List ℕ} {ends start k front rows-left cols-left : ℕ} → Progress up down ends start rows cols k front rows-left cols-left → 13 ≤ k → (column level : ℕ) → Nowhere column level → SearchFound up down ends start rows cols column level
+progress-full {up} {cols-left = cols-left} t h column level n = stuck column level (n .no-column) t (λ p q hp hq. omega (arith, none q hq, on-le (getD up p 0) q))
   where
     none : (q : ℕ) → q < 13 → on cols-left q ≡ 0
     none q hq = omega (arith, t .count, sum-term 13 (λ j. on cols-left j) q hq)

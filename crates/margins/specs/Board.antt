@@ -6,7 +6,7 @@ use lib.ListN.{length, getD, replicate}
 use Rattle.base.specs.Lists.{sumTo}
 use Rattle.sets.specs.Set.{ind, on, has}
 use Rattle.order.specs.Order.{nthRow, nthColumn}
-use Rattle.margins.specs.Matrix.{at, nthCell}
+use Rattle.margins.specs.Matrix.{at, Caps, nthCell}
 
 -- for each place its bit, and 1 where it is free
 pub record Board : Type 0 where
@@ -63,6 +63,23 @@ pub record RowsFilled (g g' : Board) (lack lack' : List ℕ) (added : ℕ → �
   pub rows : (p : ℕ) → p < 13 → rowSum g' p ≡ rowSum g p + added p
   pub cols : (q : ℕ) → q < 13 → colSum g' q + getD lack' q 0 ≡ colSum g q + getD lack q 0
 
+-- what the filling of a row by n more needs, and of all rows by what more says
+pub record RowReady (up down lack : List ℕ) (row n : ℕ) : Type 0 where
+  pub places : Places up down (replicate 13 0)
+  pub lack-len : length lack ≡ 13
+  pub inside : row < 13
+  pub room : Room (start up down) lack row n
+
+pub record FillReady (up down lack more : List ℕ) : Type 0 where
+  pub places : Places up down (replicate 13 0)
+  pub lack-len : length lack ≡ 13
+  pub feasible : Feasible (start up down) (λ p. rowSum (start up down) p + getD more p 0) (λ q. colSum (start up down) q + getD lack q 0)
+
+-- and what it leaves
+pub record FilledBy (up down lack up' down' lack' : List ℕ) (added : ℕ → ℕ) : Type 0 where
+  pub places : Places up' down' (replicate 13 0)
+  pub filled : RowsFilled (start up down) (start up' down') lack lack' added
+
 -- r is the set of columns with column j in it only where left is not 0
 pub record StillLacking (columns j left r : ℕ) : Type 0 where
   pub here : on r j ≡ min left 1
@@ -82,6 +99,21 @@ pub record Fixed (g g' : Board) (i j : ℕ) : Type 0 where
   pub kept : (p q : ℕ) → p < 13 → q < 13 → g .free p q ≡ 0 → g' .bit p q ≡ g .bit p q
   pub least : (x : ℕ → ℕ → ℕ) → Allowed g x → g' .bit i j ≤ x i j
 
+-- what the fixing of a place needs, and of one that is free and 1
+pub record FixReady (up down one : List ℕ) (row column : ℕ) : Type 0 where
+  pub places : Places up down one
+  pub row-inside : row < 13
+  pub column-inside : column < 13
+
+pub record LowerReady (up down one : List ℕ) (row column : ℕ) : Type 0 where
+  pub ready : FixReady up down one row column
+  pub is-one : has down column row ≡ 1
+
+-- and what it leaves
+pub record PlaceFixed (up down one up' down' one' : List ℕ) (row column : ℕ) : Type 0 where
+  pub places : Places up' down' one'
+  pub fixed : Fixed (boardOf up down one) (boardOf up' down' one') row column
+
 -- the first k cells of g, in the order in which cells are compared, come first among those of the matrices that have g₀'s sums and fixed places
 pub record First (g₀ g : Board) (k : ℕ) : Type 0 where
   pub rows : (p : ℕ) → rowSum g p ≡ rowSum g₀ p
@@ -92,6 +124,16 @@ pub record First (g₀ g : Board) (k : ℕ) : Type 0 where
   pub kept : (p q : ℕ) → p < 13 → q < 13 → g₀ .free p q ≡ 0 → g .bit p q ≡ g₀ .bit p q
   pub least : (x : ℕ → ℕ → ℕ) → Allowed g₀ x → (n : ℕ) → n < k
       → ((m : ℕ) → m < n → nthCell x m ≡ nthCell (g .bit) m) → nthCell (g .bit) n ≤ nthCell x n
+
+-- what the fixing of the first k cells leaves
+pub record CellsFixed (up down one up' down' one' : List ℕ) (k : ℕ) : Type 0 where
+  pub places : Places up' down' one'
+  pub first : First (boardOf up down one) (boardOf up' down' one') k
+
+-- a cap, and room for its rows
+pub record FreeReady (cap up : List ℕ) : Type 0 where
+  pub caps : Caps cap
+  pub len : length up ≡ 13
 
 -- up has for each row the columns where the cap is 1
 pub record FreeOf (cap up : List ℕ) : Type 0 where
@@ -107,3 +149,14 @@ pub record CopyOf (numbers r : List ℕ) : Type 0 where
 pub record BytesOf (down one : List ℕ) (n : ℕ) (b : List ℕ) : Type 0 where
   pub len : length b ≡ 169
   pub is : (i : ℕ) → i < n → getD b i 0 ≡ has down (i % 13) (i / 13) + has one (i / 13) (i % 13)
+
+-- a place that one of the two sets has at most, and the next row of such places
+pub record BitReady (down row one column : ℕ) : Type 0 where
+  pub row-inside : row < 13
+  pub column-inside : column < 13
+  pub single : on down row + on one column ≤ 1
+
+pub record WriteReady (down one : List ℕ) (row : ℕ) (b : List ℕ) : Type 0 where
+  pub inside : row < 13
+  pub before : BytesOf down one (row * 13) b
+  pub single : (q : ℕ) → q < 13 → has down q row + has one row q ≤ 1

@@ -3,7 +3,7 @@
 use mathlib.Core.Path.{_≡_}
 use Prim.Native.Nat.{ℕ, _+_, _<_, _≤_}
 use mathlib.Core.List.{List}
-use lib.ListN.{getD}
+use lib.ListN.{length, getD}
 use Rattle.sets.specs.Set.{ind, on, has, Via}
 
 -- the rows of the levels 0 to k and the columns of those before k: a column of a level is reached from a row of that level, and a row of the next from such a column
@@ -15,6 +15,17 @@ pub record Levels (up down rows cols : List ℕ) (start k : ℕ) : Type 0 where
   pub row-from : (i p : ℕ) → i < k → has rows (i + 1) p ≡ 1 → Via down (getD cols i 0) p
   pub row-apart : (i j p : ℕ) → i < j → j ≤ k → has rows i p + has rows j p ≤ 1
   pub col-apart : (i j q : ℕ) → i < j → j < k → has cols i q + has cols j q ≤ 1
+
+-- what a search needs: a row, and room for 14 levels
+pub record SearchReady (start : ℕ) (rows cols : List ℕ) : Type 0 where
+  pub inside : start < 13
+  pub rows-len : length rows ≡ 14
+  pub cols-len : length cols ≡ 14
+
+-- the answer where no column is found
+pub record Nowhere (column level : ℕ) : Type 0 where
+  pub no-column : column ≡ 13
+  pub no-level : level ≡ 0
 
 -- column end can be raised from a row of the last level, and is on no level before
 pub record Trail (up down rows cols : List ℕ) (start end last : ℕ) : Type 0 where

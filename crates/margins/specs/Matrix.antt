@@ -28,6 +28,11 @@ pub record Solvable (cap rows cols : List ℕ) : Type 0 where
   pub x : ℕ → ℕ → ℕ
   pub matrix : Matrix w cap rows cols x
 
+-- what is asked: a cap of 0 and 1, and line sums that such a matrix has
+pub record Asked (cap rows cols : List ℕ) : Type 0 where
+  pub caps : Caps cap
+  pub solvable : Solvable cap rows cols
+
 -- the n-th of the 12 by 12 cells of a matrix, in the order in which cells are compared
 abbrev pub nthCell : (ℕ → ℕ → ℕ) → ℕ → ℕ
 nthCell x n = x (nthRow 12 12 n) (nthColumn 12 12 n)

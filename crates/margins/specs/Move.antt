@@ -11,6 +11,15 @@ use Rattle.margins.specs.Level.{Stuck}
 unfoldable pub samePlace : ℕ → ℕ → ℕ → ℕ → ℕ
 samePlace x p y q = min (ind x p) (ind y q)
 
+-- the place at p and q is in a and not in b
+pub record FlipReady (a b : List ℕ) (p q : ℕ) : Type 0 where
+  pub a-len : length a ≡ 13
+  pub b-len : length b ≡ 13
+  pub p-inside : p < 13
+  pub q-inside : q < 13
+  pub in-a : has a p q ≡ 1
+  pub not-in-b : has b q p ≡ 0
+
 -- a' and b' are a and b with the place at p and q moved from a to b
 pub record Flipped (a b a' b' : List ℕ) (p q : ℕ) : Type 0 where
   pub a-len : length a' ≡ 13
@@ -30,6 +39,11 @@ pub record NotBoth (up down : List ℕ) : Type 0 where
   pub up-len : length up ≡ 13
   pub down-len : length down ≡ 13
   pub one : (p q : ℕ) → p < 13 → q < 13 → has up p q + has down q p ≤ 1
+
+-- what a path from row start needs
+pub record AugmentReady (up down : List ℕ) (start : ℕ) : Type 0 where
+  pub apart : NotBoth up down
+  pub inside : start < 13
 
 -- one more in a row and in a column, and the same in every other line; what is free stays so
 pub record OneMore (up down up' down' : List ℕ) (row column : ℕ) : Type 0 where

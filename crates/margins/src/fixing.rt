@@ -1,8 +1,5 @@
 // The first of the matrices with the same line sums. `one` has for each row the columns whose place is fixed at 1.
-ghost use mathlib.Core.Path.{_≡_};
-ghost use Prim.Native.Nat.{_<_};
-ghost use Rattle.sets.specs.Set.{has};
-ghost use Rattle.margins.specs.Board.{Places, boardOf, Fixed, First};
+ghost use Rattle.margins.specs.Board.{Places, LowerReady, FixReady, PlaceFixed, CellsFixed};
 use crate::search::augment;
 use order::nth_column;
 use order::nth_row;
@@ -19,10 +16,8 @@ pub fn lower(
     row: usize,
     column: usize,
 )
-    requires { ⌜ Places (now up) (now down) (now one) ⌝ }
-    requires { ⌜ (row < 13) × ((column < 13) × (has (now down) column row ≡ 1)) ⌝ }
-    ensures { λ _. ⌜ Places (now (up .exit)) (now (down .exit)) (now (one .exit))
-        × Fixed (boardOf (now (up .entry)) (now (down .entry)) (now (one .entry))) (boardOf (now (up .exit)) (now (down .exit)) (now (one .exit))) row column ⌝ }
+    requires { ⌜ LowerReady (now up) (now down) (now one) row column ⌝ }
+    ensures { λ _. ⌜ PlaceFixed (now (up .entry)) (now (down .entry)) (now (one .entry)) (now (up .exit)) (now (down .exit)) (now (one .exit)) row column ⌝ }
 {
     down[column] = without(down[column], row);
     let found = augment(up, down, single(column), row);
@@ -33,10 +28,8 @@ pub fn lower(
 
 // Fixes a place, as low as can be.
 pub fn fix(up: &mut [u32; 13], down: &mut [u32; 13], one: &mut [u32; 13], row: usize, column: usize)
-    requires { ⌜ Places (now up) (now down) (now one) ⌝ }
-    requires { ⌜ (row < 13) × (column < 13) ⌝ }
-    ensures { λ _. ⌜ Places (now (up .exit)) (now (down .exit)) (now (one .exit))
-        × Fixed (boardOf (now (up .entry)) (now (down .entry)) (now (one .entry))) (boardOf (now (up .exit)) (now (down .exit)) (now (one .exit))) row column ⌝ }
+    requires { ⌜ FixReady (now up) (now down) (now one) row column ⌝ }
+    ensures { λ _. ⌜ PlaceFixed (now (up .entry)) (now (down .entry)) (now (one .entry)) (now (up .exit)) (now (down .exit)) (now (one .exit)) row column ⌝ }
 {
     if member(up[row], column) == 1 {
         up[row] = without(up[row], column);
@@ -50,8 +43,7 @@ pub fn fix(up: &mut [u32; 13], down: &mut [u32; 13], one: &mut [u32; 13], row: u
 // Fixes the 12 by 12 cells, in the order in which cells are compared.
 pub fn fix_all(up: &mut [u32; 13], down: &mut [u32; 13], one: &mut [u32; 13])
     requires { ⌜ Places (now up) (now down) (now one) ⌝ }
-    ensures { λ _. ⌜ Places (now (up .exit)) (now (down .exit)) (now (one .exit))
-        × First (boardOf (now (up .entry)) (now (down .entry)) (now (one .entry))) (boardOf (now (up .exit)) (now (down .exit)) (now (one .exit))) 144 ⌝ }
+    ensures { λ _. ⌜ CellsFixed (now (up .entry)) (now (down .entry)) (now (one .entry)) (now (up .exit)) (now (down .exit)) (now (one .exit)) 144 ⌝ }
 {
     for n in 0..144 {
         fix(up, down, one, nth_row(n), nth_column(n));

@@ -1,5 +1,5 @@
 // Which matrix of 0 and 1 with given line sums comes first?
-ghost use Rattle.margins.specs.Matrix.{Caps, Solvable, FirstMatrix};
+ghost use Rattle.margins.specs.Matrix.{Asked, FirstMatrix};
 use crate::fill::fill;
 use crate::fixing::fix_all;
 use crate::places::bytes_of;
@@ -13,7 +13,7 @@ mod search;
 
 // The first matrix of 0 and 1, in row order of its cells, that is at most `cap` and has the given line sums.
 pub fn first(cap: &[u8; 169], rows: &[u8; 13], cols: &[u8; 13]) -> [u8; 169]
-    requires { ⌜ Caps (now cap) × Solvable (now cap) (now rows) (now cols) ⌝ }
+    requires { ⌜ Asked (now cap) (now rows) (now cols) ⌝ }
     ensures { λ b. ⌜ FirstMatrix (now (cap .entry)) (now (rows .entry)) (now (cols .entry)) b ⌝ }
 {
     let mut up = [0u32; 13];

@@ -1,16 +1,14 @@
 // Between a grid of bytes, in row order, and sets of places (`up`, `down`: see search; `one`: see fixing).
 ghost use mathlib.Core.Path.{_≡_};
 ghost use Prim.Native.Nat.{ℕ, _+_, _*_, _≤_, _<_};
-ghost use lib.ListN.{length};
 ghost use Rattle.sets.specs.Set.{on, has};
-ghost use Rattle.margins.specs.Matrix.{Caps};
-ghost use Rattle.margins.specs.Board.{FreeOf, BytesOf, CopyOf};
+ghost use Rattle.margins.specs.Board.{FreeReady, FreeOf, CopyOf, BitReady, WriteReady, BytesOf};
 use sets::member;
 use sets::nonzero;
 
 // For each row the columns where `cap` is 1.
 pub fn free_places(cap: &[u8; 169], up: &mut [u32; 13])
-    requires { ⌜ Caps (now cap) × (length (now up) ≡ 13) ⌝ }
+    requires { ⌜ FreeReady (now cap) (now up) ⌝ }
     ensures { λ _. ⌜ FreeOf (now (cap .entry)) (now (up .exit)) ⌝ }
 {
     for p in 0..13 {
@@ -31,7 +29,7 @@ pub fn copy_of(numbers: &[u8; 13]) -> [u8; 13]
 
 // The bit of a place: 1 where it is free and 1, or fixed at 1.
 pub fn bit_of(down: u32, row: usize, one: u32, column: usize) -> u8
-    requires { ⌜ (row < 13) × ((column < 13) × (on down row + on one column ≤ 1)) ⌝ }
+    requires { ⌜ BitReady down row one column ⌝ }
     ensures { λ r. ⌜ r ≡ on down row + on one column ⌝ }
 {
     (member(down, row) + member(one, column)) as u8
@@ -39,7 +37,7 @@ pub fn bit_of(down: u32, row: usize, one: u32, column: usize) -> u8
 
 // Writes a row of the matrix after those before it.
 pub fn write_row(down: &[u32; 13], one: &[u32; 13], row: usize, b: &mut [u8; 169])
-    requires { ⌜ (row < 13) × (BytesOf (now down) (now one) (row * 13) (now b) × ((q : ℕ) → q < 13 → has (now down) q row + has (now one) row q ≤ 1)) ⌝ }
+    requires { ⌜ WriteReady (now down) (now one) row (now b) ⌝ }
     ensures { λ _. ⌜ BytesOf (now (down .entry)) (now (one .entry)) (row * 13 + 13) (now (b .exit)) ⌝ }
 {
     let fixed = one[row];

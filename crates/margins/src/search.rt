@@ -1,11 +1,7 @@
 // The search for an alternating path, level by level, and the flip along it.
 // `up` has for each row the columns whose place is free and 0, `down` for each column the rows whose place is free and 1.
-ghost use mathlib.Core.Path.{_≡_};
-ghost use Prim.Native.Nat.{_+_, _<_};
-ghost use lib.ListN.{length};
-ghost use Rattle.sets.specs.Set.{has};
-ghost use Rattle.margins.specs.Level.{SearchFound, Trail};
-ghost use Rattle.margins.specs.Move.{NotBoth, Flipped, OneMore, Augmented};
+ghost use Rattle.margins.specs.Level.{SearchReady, Nowhere, SearchFound, Trail};
+ghost use Rattle.margins.specs.Move.{FlipReady, NotBoth, Flipped, OneMore, AugmentReady, Augmented};
 use sets::meet;
 use sets::minus;
 use sets::pick;
@@ -23,7 +19,7 @@ pub struct Found {
 
 // The answer of a search that finds no column.
 fn nowhere() -> Found
-    ensures { λ r. ⌜ (r .column ≡ 13) × (r .level ≡ 0) ⌝ }
+    ensures { λ r. ⌜ Nowhere (r .column) (r .level) ⌝ }
 {
     Found {
         column: 13,
@@ -41,7 +37,7 @@ pub fn reach(
     rows: &mut [u32; 14],
     cols: &mut [u32; 14],
 ) -> Found
-    requires { ⌜ (start < 13) × ((length (now rows) ≡ 14) × (length (now cols) ≡ 14)) ⌝ }
+    requires { ⌜ SearchReady start (now rows) (now cols) ⌝ }
     ensures { λ r. ⌜ SearchFound (now (up .entry)) (now (down .entry)) ends start (now (rows .exit)) (now (cols .exit)) (r .column) (r .level) ⌝ }
 {
     let mut front = single(start);
@@ -71,8 +67,7 @@ pub fn reach(
 
 // Flips a place: takes q out of the set p of `a`, and puts p into the set q of `b`.
 pub fn flip(a: &mut [u32; 13], b: &mut [u32; 13], p: usize, q: usize)
-    requires { ⌜ (length (now a) ≡ 13) × (length (now b) ≡ 13) ⌝ }
-    requires { ⌜ (p < 13) × ((q < 13) × ((has (now a) p q ≡ 1) × (has (now b) q p ≡ 0))) ⌝ }
+    requires { ⌜ FlipReady (now a) (now b) p q ⌝ }
     ensures { λ _. ⌜ Flipped (now (a .entry)) (now (b .entry)) (now (a .exit)) (now (b .exit)) p q ⌝ }
 {
     a[p] = without(a[p], q);
@@ -109,7 +104,7 @@ pub fn flip_path(
 
 // One more in row `start` and in a column of `ends`: that column, or 13 where there is none, and then all stays as it is.
 pub fn augment(up: &mut [u32; 13], down: &mut [u32; 13], ends: u32, start: usize) -> usize
-    requires { ⌜ NotBoth (now up) (now down) × (start < 13) ⌝ }
+    requires { ⌜ AugmentReady (now up) (now down) start ⌝ }
     ensures { λ r. ⌜ Augmented (now (up .entry)) (now (down .entry)) (now (up .exit)) (now (down .exit)) ends start r ⌝ }
 {
     let mut rows = [0u32; 14];

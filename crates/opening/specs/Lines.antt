@@ -45,6 +45,17 @@ pub record Room (low high : List ℕ) : Type 0 where
   pub low-length : length low ≡ maxEntries
   pub high-length : length high ≡ maxEntries
 
+-- what finding the bounds of all entries of a table needs, and of the entries of a kind
+pub record BoundsReady (r c d : ℕ) (g low high : List ℕ) : Type 0 where
+  pub shape : Shape r c g
+  pub cells-are : Cells d g
+  pub room : Room low high
+
+pub record KindReady (k : Lines) (from d : ℕ) (g low high : List ℕ) : Type 0 where
+  pub placed : Placed k from (length g)
+  pub cells-are : Cells d g
+  pub room : Room low high
+
 -- low and high hold f 0, f 1, .. from a place on, each over d rounded down and up, and elsewhere what they held
 pub record BoundsFrom (d : ℕ) (f : ℕ → ℕ) (from : ℕ) (low high low′ high′ : List ℕ) (n : ℕ) : Type 0 where
   pub lows : Filled (λ l. down d (f l)) from low low′ n
@@ -74,7 +85,11 @@ linesBetween n low high k from = every (k .count) (λ l. between (getD low (from
 unfoldable pub entriesBetween : ℕ → ℕ → List ℕ → List ℕ → List ℕ → Bool
 entriesBetween r c n low high = every (length (heldTo r c)) (λ e. between (getD low e 0) (getD high e 0) (entryOf r c n e))
 
--- an array of r by c counts, and room
+-- what holding the entries of a kind of an array to their bounds needs, and all entries
+pub record KindHeld (k : Lines) (from : ℕ) (n low high : List ℕ) : Type 0 where
+  pub placed : Placed k from (length n)
+  pub room : Room low high
+
 pub record Counts (r c : ℕ) (n low high : List ℕ) : Type 0 where
   pub shape : Shape r c n
   pub room : Room low high

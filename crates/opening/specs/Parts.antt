@@ -40,11 +40,15 @@ pub record SumsTo (f : ℕ → ℕ) (l : List Weighted) (n k : ℕ) (sums : List
 abbrev pub weightAt : List Weighted → ℕ → ℕ
 weightAt l j = arrayAt l j .weight
 
--- what is known before array k of a plan is tested, and after it
+-- what is known before array k of a plan is tested, with the array itself, and after it
 pub record ArraysTo (s : Sizes) (b low high : List ℕ) (k : ℕ) (sums : List ℕ) : Type 0 where
   pub sized : Sized s b
   pub bounds : Bounds (s .rows) (s .columns) (s .denominator) (decode b .cells) low high
   pub sums-are : SumsTo (weightAt (decode b .arrays)) (decode b .arrays) (cellCount (decode b)) k sums
+
+pub record ArrayTo (s : Sizes) (b low high : List ℕ) (k : ℕ) (sums : List ℕ) : Type 0 where
+  pub so-far : ArraysTo s b low high k sums
+  pub there : k < s .arrays
 
 pub record ArrayTested (b : List ℕ) (k : ℕ) (r : Bool) (sums : List ℕ) : Type 0 where
   pub answer : r ≡ held (decode b) (arrayAt (decode b .arrays) k)

@@ -1,10 +1,9 @@
 // The contents of a plan that is laid out: refusal 6.
 ghost use mathlib.Core.Path.{_≡_};
-ghost use Prim.Native.Nat.{_<_};
 ghost use Rattle.form.specs.Form.{decode};
 ghost use Rattle.opening.specs.Open.{consistent};
 ghost use Rattle.form.specs.Parts.{Sized};
-ghost use Rattle.opening.specs.Parts.{weightsRight, arraysRight, ArraysTo, ArrayTested, ArraysTested, TableOf};
+ghost use Rattle.opening.specs.Parts.{weightsRight, arraysRight, ArraysTo, ArrayTo, ArrayTested, ArraysTested, TableOf};
 use crate::lines::bounds;
 use crate::lines::held;
 use crate::weighted::add_weighted;
@@ -41,7 +40,7 @@ fn array_held(
     high: &[u32; 169],
     sums: &mut [u64; 144],
 ) -> bool
-    requires { ⌜ ArraysTo s (now plan) (now low) (now high) k (now sums) × (k < s .arrays) ⌝ }
+    requires { ⌜ ArrayTo s (now plan) (now low) (now high) k (now sums) ⌝ }
     ensures { λ r. ⌜ ArrayTested (now (plan .entry)) k r (now (sums .exit)) ⌝ }
 {
     let cells = s.rows * s.columns;

@@ -3,8 +3,8 @@ ghost use mathlib.Core.Path.{_≡_};
 ghost use Prim.Native.Nat.{_+_, _*_, _≤_};
 ghost use lib.ListN.{length};
 ghost use Rattle.table.specs.Table.{places, total, maxRows, maxColumns};
-ghost use Rattle.table.specs.Shape.{Shape, Reach};
-ghost use Rattle.opening.specs.Lines.{linePlaces, cellLines, rowLines, columnLines, Placed, Cells, Room, BoundsFrom, Bounds, oneOutside, linesBetween, entriesBetween, Counts};
+ghost use Rattle.table.specs.Shape.{Reach};
+ghost use Rattle.opening.specs.Lines.{linePlaces, cellLines, rowLines, columnLines, BoundsReady, KindReady, BoundsFrom, Bounds, oneOutside, linesBetween, entriesBetween, KindHeld, Counts};
 use base::convert::u8_to_u64;
 use base::convert::u16_to_u32;
 use base::convert::u64_to_u32;
@@ -65,7 +65,7 @@ fn line_bounds(
     low: &mut [u32; 169],
     high: &mut [u32; 169],
 )
-    requires { ⌜ Placed k from (length (now cells)) × (Cells denominator (now cells) × Room (now low) (now high)) ⌝ }
+    requires { ⌜ KindReady k from denominator (now cells) (now low) (now high) ⌝ }
     ensures { λ _. ⌜ BoundsFrom denominator (λ l. total (now (cells .entry)) (linePlaces k l)) from
         (now (low .entry)) (now (high .entry)) (now (low .exit)) (now (high .exit)) (k .count) ⌝ }
 {
@@ -86,7 +86,7 @@ pub fn bounds(
     low: &mut [u32; 169],
     high: &mut [u32; 169],
 )
-    requires { ⌜ Shape rows columns (now cells) × (Cells denominator (now cells) × Room (now low) (now high)) ⌝ }
+    requires { ⌜ BoundsReady rows columns denominator (now cells) (now low) (now high) ⌝ }
     ensures { λ _. ⌜ Bounds rows columns denominator (now (cells .entry)) (now (low .exit)) (now (high .exit)) ⌝ }
 {
     let n = rows * columns;
@@ -132,7 +132,7 @@ fn outside(x: u32, low: u32, high: u32) -> u32
 // Whether each entry of one kind of an array lies between its bounds, which stand from a place on. How many do not is counted, without leaving at the
 // first, so that a machine can compare several at once.
 fn lines_between(counts: &[u16], k: Lines, from: usize, low: &[u32; 169], high: &[u32; 169]) -> bool
-    requires { ⌜ Placed k from (length (now counts)) × Room (now low) (now high) ⌝ }
+    requires { ⌜ KindHeld k from (now counts) (now low) (now high) ⌝ }
     ensures { λ r. ⌜ r ≡ linesBetween (now (counts .entry)) (now (low .entry)) (now (high .entry)) k from ⌝ }
 {
     let mut failed: u32 = 0;

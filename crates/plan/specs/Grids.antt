@@ -68,6 +68,12 @@ pub record RoundDone (w : ℕ) (e n : List ℕ) (x : ℕ) (e' : List ℕ) : Type
 abbrev pub maxCounts : ℕ
 maxCounts = 24480
 
+-- what all rounds of an accepted table need: room for each array's weight and counts
+pub record RoundsReady (r c d : ℕ) (g weights counts : List ℕ) : Type 0 where
+  pub table : IsTable r c d g
+  pub weights-room : length weights ≡ maxArrays
+  pub counts-room : length counts ≡ maxCounts
+
 -- where the rounds stand: what is left, and the weights and arrays so far, in a scratch for those of the largest plan
 pub record Gathered (r c d : ℕ) (g : List ℕ) (w k : ℕ) (e weights counts : List ℕ) : Type 0 where
   pub table : IsTable r c d g

@@ -1,9 +1,5 @@
 // All rounds of the plan of an accepted table.
-ghost use mathlib.Core.Path.{_≡_};
-ghost use lib.ListN.{length};
-ghost use Rattle.table.specs.Shape.{IsTable};
-ghost use Rattle.table.specs.Table.{maxArrays};
-ghost use Rattle.plan.specs.Grids.{maxCounts, AllGathered};
+ghost use Rattle.plan.specs.Grids.{RoundsReady, AllGathered};
 use crate::round::one_round;
 use base::convert::u64_to_u32;
 use grid::entries;
@@ -12,7 +8,7 @@ use table::Table;
 
 // The rounds until no weight is left: each array's weight and counts, one after another, and how many there are.
 pub fn rounds(t: Table, cells: &[u32], weights: &mut [u32], counts: &mut [u16]) -> usize
-    requires { ⌜ IsTable (t .rows) (t .columns) (t .denominator) (now cells) × ((length (now weights) ≡ maxArrays) × (length (now counts) ≡ maxCounts)) ⌝ }
+    requires { ⌜ RoundsReady (t .rows) (t .columns) (t .denominator) (now cells) (now weights) (now counts) ⌝ }
     ensures { λ k. ⌜ AllGathered (t .rows) (t .columns) (t .denominator) (now (cells .entry)) k (now (weights .exit)) (now (counts .exit)) ⌝ }
 {
     let mut e = entries(t, cells);

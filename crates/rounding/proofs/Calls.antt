@@ -32,7 +32,7 @@ use Rattle.grid.proofs.GridBounds.{grid-small}
 use Rattle.table.proofs.Roundings.{gap-le, rounds-high}
 use Rattle.base.proofs.Filling.{filled-written}
 use Rattle.rounding.specs.Rounding.{isRounding, IsFirst, firstRounding}
-use Rattle.rounding.specs.Lines.{gridCell, IsGrid, RoundedGrid, Ready}
+use Rattle.rounding.specs.Lines.{gridCell, IsGrid, RoundedGrid, Ready, FirstWritten}
 use Rattle.rounding.specs.Call.{roundRefusal}
 use Rattle.rounding.proofs.Roundings.{rounding-length, rounding-grid}
 
@@ -116,9 +116,7 @@ module _ (r c d : ℕ) (g : List ℕ) (room : ℕ) {k : Checked} (e : k ≡ chec
     enough l = refused-nothing r c d g room (r * c) (told .nothing-due) (rw (told .sizes) at l)
 
     pub done : (old new : List ℕ)
-        → IsFirst (t .rows) (t .columns) (t .denominator) g (firstRounding (t .rows) (t .columns) (t .denominator) g)
-        × (new ≡ written (firstRounding (t .rows) (t .columns) (t .denominator) g) old)
-        → IsFirst r c d g (firstRounding r c d g) × (new ≡ written (firstRounding r c d g) old)
+        → FirstWritten (t .rows) (t .columns) (t .denominator) g old new → FirstWritten r c d g old new
     done old new f = rw (told .sizes) at f
 
 -- a call that is refused promises nothing else

@@ -11,7 +11,7 @@ use Rattle.grid.specs.Grid.{gridAt, gridOf}
 use Rattle.table.specs.Whole.{down, up, gap}
 use Rattle.table.specs.Shape.{Shape}
 use Rattle.grid.proofs.GridPlaces.{grid-at, length-grid}
-use Rattle.margins.specs.Matrix.{at, Caps, Solvable, FirstMatrix}
+use Rattle.margins.specs.Matrix.{at, Asked, FirstMatrix}
 use Rattle.rounding.specs.Rounding.{IsFirst, firstRounding}
 use Rattle.rounding.specs.Lines.{Parts, LinesFit, Needs, BitsFit, countAt, IsGrid, RoundedGrid}
 use Rattle.rounding.proofs.Roundings.{first-is}
@@ -28,13 +28,13 @@ module _ {e : List ℕ} (i : IsGrid e) {w : ℕ} (wp : 0 < w) {low high cap : Li
 
   module _ {rows cols : List ℕ} (nr : Needs low high 13 1 rows) (nc : Needs low high 1 13 cols) where
     -- what the search for bits asks
-    pub ready : Caps cap × Solvable cap rows cols
-    ready = (
-      caps (i .shape) (i .is) t (i .small),
-      solvable (i .shape) w wp cap rows cols (gap-at (i .shape) (i .is) t (i .small))
+    pub ready : Asked cap rows cols
+    ready = record {
+      caps = caps (i .shape) (i .is) t (i .small);
+      solvable = solvable (i .shape) w wp cap rows cols (gap-at (i .shape) (i .is) t (i .small))
           (line-needs wp (laid-rows (i .shape) (i .is) t (i .small)) rows nr)
-          (line-needs wp (laid-columns (i .shape) (i .is) t (i .small)) cols nc),
-    )
+          (line-needs wp (laid-columns (i .shape) (i .is) t (i .small)) cols nc);
+    }
 
     module _ {b : List ℕ} (fm : FirstMatrix cap rows cols b) where
       pub bits-fit : BitsFit low high b

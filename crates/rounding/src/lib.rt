@@ -1,13 +1,12 @@
 // Controlled roundings: the first of a table, in the stated order.
 ghost use mathlib.Core.Path.{_≡_};
 ghost use mathlib.Core.Option.{none};
-ghost use Prim.Native.Nat.{_*_, _≤_};
 ghost use lib.ListN.{length};
-ghost use Rattle.table.specs.Shape.{IsTable};
 ghost use Rattle.refusals.specs.Due.{Answers};
 ghost use Rattle.base.specs.Buffers.{written};
 ghost use Rattle.rounding.specs.Rounding.{IsFirst, firstRounding};
 ghost use Rattle.rounding.specs.Call.{roundRefusal};
+ghost use Rattle.rounding.specs.Lines.{TableReady, FirstWritten};
 use crate::first::round_grid;
 use crate::write::write_cells;
 use grid::entries;
@@ -24,9 +23,8 @@ pub mod write;
 
 // Writes the first controlled rounding of an accepted table.
 fn write_rounding(t: Table, cells: &[u32], counts: &mut [u16])
-    requires { ⌜ IsTable (t .rows) (t .columns) (t .denominator) (now cells) × (t .rows * t .columns ≤ length (now counts)) ⌝ }
-    ensures { λ _. ⌜ IsFirst (t .rows) (t .columns) (t .denominator) (now (cells .entry)) (firstRounding (t .rows) (t .columns) (t .denominator) (now (cells .entry)))
-        × (now (counts .exit) ≡ written (firstRounding (t .rows) (t .columns) (t .denominator) (now (cells .entry))) (now (counts .entry))) ⌝ }
+    requires { ⌜ TableReady (t .rows) (t .columns) (t .denominator) (now cells) (now counts) ⌝ }
+    ensures { λ _. ⌜ FirstWritten (t .rows) (t .columns) (t .denominator) (now (cells .entry)) (now (counts .entry)) (now (counts .exit)) ⌝ }
 {
     let rows = t.rows;
     let columns = t.columns;

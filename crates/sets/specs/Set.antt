@@ -29,6 +29,20 @@ pub record Single (i r : ℕ) : Type 0 where
   pub small : r < 8192
   pub is : (j : ℕ) → on r j ≡ ind j i
 
+-- a set that is not empty
+pub record NotEmpty (x : ℕ) : Type 0 where
+  pub some : 0 < x
+  pub small : x < 8192
+
+-- i is a member of x, and i is not
+pub record MemberOf (x i : ℕ) : Type 0 where
+  pub below : i < 13
+  pub is : on x i ≡ 1
+
+pub record NewTo (x i : ℕ) : Type 0 where
+  pub below : i < 13
+  pub is : on x i ≡ 0
+
 -- r is a member of x
 pub record Some (x r : ℕ) : Type 0 where
   pub below : r < 13
@@ -52,6 +66,12 @@ pub record Meet (a b r : ℕ) : Type 0 where
 pub record Join (a b r : ℕ) : Type 0 where
   pub is : (j : ℕ) → on r j ≡ max (on a j) (on b j)
 
+-- b is a part of a
+pub record PartOf (a b : ℕ) : Type 0 where
+  pub whole-small : a < 8192
+  pub part-small : b < 8192
+  pub is : (j : ℕ) → on b j ≤ on a j
+
 -- r is a without the members of its part b
 pub record Minus (a b r : ℕ) : Type 0 where
   pub small : r < 8192
@@ -67,6 +87,12 @@ pub record Picked (sets : List ℕ) (x q p : ℕ) : Type 0 where
 pub record Via (sets : List ℕ) (x q : ℕ) : Type 0 where
   pub p : ℕ
   pub picked : Picked sets x q p
+
+-- q is below 13, and there is such a p
+pub record Pickable (sets : List ℕ) (x q : ℕ) : Type 0 where
+  pub small : x < 8192
+  pub below : q < 13
+  pub via : Via sets x q
 
 -- r is the union of the sets whose index is in x
 pub record UnionOf (sets : List ℕ) (x r : ℕ) : Type 0 where

@@ -1,8 +1,8 @@
 // Sets of indices below 13, as numbers: i is a member where bit i is 1.
 ghost use mathlib.Core.Path.{_≡_};
-ghost use Prim.Native.Nat.{ℕ, _+_, _≤_, _<_};
+ghost use Prim.Native.Nat.{_+_, _≤_, _<_};
 ghost use lib.ListN.{length};
-ghost use Rattle.sets.specs.Set.{on, Single, Some, Without, With, Meet, Join, Minus, Via, Picked, UnionOf, Nonzero};
+ghost use Rattle.sets.specs.Set.{on, Single, NotEmpty, MemberOf, NewTo, Some, Without, With, Meet, Join, PartOf, Minus, Picked, Pickable, UnionOf, Nonzero};
 
 // The set of one member.
 pub fn single(i: usize) -> u32
@@ -22,7 +22,7 @@ pub fn member(x: u32, i: usize) -> u32
 
 // A member of a set that is not empty: the last.
 pub fn some(x: u32) -> usize
-    requires { ⌜ (0 < x) × (x < 8192) ⌝ }
+    requires { ⌜ NotEmpty x ⌝ }
     ensures { λ r. ⌜ Some x r ⌝ }
 {
     (31 - u32::leading_zeros(x)) as usize
@@ -30,7 +30,7 @@ pub fn some(x: u32) -> usize
 
 // x without its member i.
 pub fn without(x: u32, i: usize) -> u32
-    requires { ⌜ (i < 13) × (on x i ≡ 1) ⌝ }
+    requires { ⌜ MemberOf x i ⌝ }
     ensures { λ r. ⌜ Without x i r ⌝ }
 {
     x ^ single(i)
@@ -38,7 +38,7 @@ pub fn without(x: u32, i: usize) -> u32
 
 // x with the new member i.
 pub fn with(x: u32, i: usize) -> u32
-    requires { ⌜ (i < 13) × (on x i ≡ 0) ⌝ }
+    requires { ⌜ NewTo x i ⌝ }
     ensures { λ r. ⌜ With x i r ⌝ }
 {
     x | single(i)
@@ -60,7 +60,7 @@ pub fn join(a: u32, b: u32) -> u32
 
 // a without the members of its part b.
 pub fn minus(a: u32, b: u32) -> u32
-    requires { ⌜ (a < 8192) × ((b < 8192) × ((j : ℕ) → on b j ≤ on a j)) ⌝ }
+    requires { ⌜ PartOf a b ⌝ }
     ensures { λ r. ⌜ Minus a b r ⌝ }
 {
     a ^ b
@@ -83,7 +83,7 @@ pub fn union_of(sets: &[u32; 13], x: u32) -> u32
 
 // A member p of x with q in the set of index p.
 pub fn pick(sets: &[u32; 13], x: u32, q: usize) -> usize
-    requires { ⌜ (x < 8192) × ((q < 13) × Via (now sets) x q) ⌝ }
+    requires { ⌜ Pickable (now sets) x q ⌝ }
     ensures { λ r. ⌜ Picked (now (sets .entry)) x q r ⌝ }
 {
     let mut left = x;

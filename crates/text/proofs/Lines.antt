@@ -22,7 +22,7 @@ use Rattle.form.proofs.Layouts.{laid}
 use Rattle.form.proofs.Readings.{decode-arrays, counts-length, contents-room}
 use Rattle.form.proofs.Sizing.{cells-are, sized-few, sized-fits}
 use Rattle.text.specs.Text.{decimal, spaced, line, lines, lineNumbers, listing, refusedWord, refused}
-use Rattle.text.specs.Write.{maxListing, Room, Wrote, gapBefore, planLine, HasLine, LineOf, LineRead}
+use Rattle.text.specs.Write.{maxListing, Room, Wrote, gapBefore, planLine, LineOf, LineRead}
 use Rattle.text.proofs.Decimals.{decimal-most}
 use Rattle.text.proofs.Writes.{room-first, room-then, wrote-then, Writing, writing-none, writing-all, writing-room, writing-more}
 

@@ -7,7 +7,7 @@ use lib.ListN.{length, getD, take}
 use Rattle.base.specs.Buffers.{putAt}
 use Rattle.form.specs.Plan.{Plan}
 use Rattle.form.specs.Form.{laidOut, decode}
-use Rattle.text.specs.Text.{line, lineNumbers}
+use Rattle.text.specs.Text.{line, lineNumbers, listing}
 
 -- some bytes fit into a buffer from a place on
 pub record Room (out : List ℕ) (at : ℕ) (s : List ℕ) : Type 0 where
@@ -45,6 +45,16 @@ pub record LineOf (b : List ℕ) (k : ℕ) (numbers : List ℕ) : Type 0 where
 pub record Printable (b : List ℕ) (k : ℕ) (out : List ℕ) (at : ℕ) : Type 0 where
   pub has : HasLine b k
   pub room : Room out at (line (planLine (decode b) k))
+
+-- a plan that is laid out, and room for its listing
+pub record Listable (b out : List ℕ) (at : ℕ) : Type 0 where
+  pub laid-out : laidOut b ≡ true
+  pub room : Room out at (listing (decode b))
+
+-- or for any listing
+pub record ListableAt (b out : List ℕ) (at : ℕ) : Type 0 where
+  pub laid-out : laidOut b ≡ true
+  pub room : at + maxListing ≤ length out
 
 -- the first n numbers are those of line k
 pub record LineRead (b : List ℕ) (k : ℕ) (numbers : List ℕ) (n : ℕ) : Type 0 where

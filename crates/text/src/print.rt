@@ -1,13 +1,12 @@
 // Printing a stored plan, and refusals.
 ghost use mathlib.Core.Path.{_≡_};
-ghost use mathlib.Core.Bool.{true};
 ghost use Prim.Native.Nat.{_+_, _≤_};
 ghost use lib.ListN.{length, getD};
 ghost use Rattle.base.specs.Fill.{Filled};
-ghost use Rattle.form.specs.Form.{laidOut, decode};
+ghost use Rattle.form.specs.Form.{decode};
 ghost use Rattle.refusals.specs.Numbers.{numberOf};
 ghost use Rattle.text.specs.Text.{line, listing, refused, refusedText};
-ghost use Rattle.text.specs.Write.{maxListing, Room, Wrote, planLine, LineOf, LineRead, Printable};
+ghost use Rattle.text.specs.Write.{maxListing, Room, Wrote, planLine, LineOf, LineRead, Printable, Listable, ListableAt};
 use crate::write::put_bytes;
 use crate::write::put_decimal;
 use crate::write::put_number;
@@ -89,7 +88,7 @@ fn print_line(plan: &[u8], k: usize, out: &mut [u8], at: usize) -> usize
 
 // All lines of a stored plan.
 fn print_lines(plan: &[u8], out: &mut [u8], at: usize) -> usize
-    requires { ⌜ (laidOut (now plan) ≡ true) × Room (now out) at (listing (decode (now plan))) ⌝ }
+    requires { ⌜ Listable (now plan) (now out) at ⌝ }
     ensures { λ r. ⌜ Wrote (now (out .entry)) at (listing (decode (now (plan .entry)))) (now (out .exit)) r ⌝ }
 {
     let s = sizes(plan);
@@ -103,7 +102,7 @@ fn print_lines(plan: &[u8], out: &mut [u8], at: usize) -> usize
 
 // The listing of a stored plan.
 pub fn print_plan_bytes(plan: &[u8], out: &mut [u8], at: usize) -> usize
-    requires { ⌜ (laidOut (now plan) ≡ true) × (at + maxListing ≤ length (now out)) ⌝ }
+    requires { ⌜ ListableAt (now plan) (now out) at ⌝ }
     ensures { λ r. ⌜ Wrote (now (out .entry)) at (listing (decode (now (plan .entry)))) (now (out .exit)) r ⌝ }
 {
     print_lines(plan, out, at)

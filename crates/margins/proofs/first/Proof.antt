@@ -9,10 +9,10 @@ fill-requires c κs =
     let s = c .before .before .before .before .before .before .pre in
     let u = c .before .before .before .free-places .ensures in
     let l = c .before .before .before .before .before .copy-of .ensures in
-    (places-start (s .0) (s .1) u l, (l .len, feasible-start (s .0) (s .1) u l))
+    record { places = places-start (s .caps) (s .solvable) u l; lack-len = l .len; feasible = feasible-start (s .caps) (s .solvable) u l }
 
 bytes-of-requires : tie.Need-bytes-of-requires
-bytes-of-requires c κs p q hp hq = omega (arith, c .before .before .fix-all .ensures .0 .single p q hp hq)
+bytes-of-requires c κs p q hp hq = omega (arith, c .before .before .fix-all .ensures .places .single p q hp hq)
 
 returns : tie.Need-returns
 returns c =
@@ -21,7 +21,7 @@ returns c =
     let s = f .before .before .before .before .before .before .before .pre in
     let u = f .before .before .before .before .free-places .ensures in
     let l = f .before .before .before .before .before .before .copy-of .ensures in
-    first-matrix (s .0) (s .1) u l (f .fill .ensures .1) (a .0) (a .1) (c .bytes-of .ensures)
+    first-matrix (s .caps) (s .solvable) u l (f .fill .ensures .filled) (a .places) (a .first) (c .bytes-of .ensures)
 
 pub first-spec : {M : Type 1} → statement M
 first-spec =

@@ -20,7 +20,7 @@ returns c =
 write-rounding-requires : tie.Need-write-rounding-requires
 write-rounding-requires c κs =
     let m = c .before .before .before .before in
-    (is-table _ _ _ _ 0 (m .before .before .check .ensures) (m .checked2 .given .1), c .before .if1 .left)
+    record { table = is-table _ _ _ _ 0 (m .before .before .check .ensures) (m .checked2 .given .1); room = c .before .if1 .left }
 
 returns-2 : tie.Need-returns-2
 returns-2 c = refused-first (refused _ _ _ _ _ (c .before .before .before .check .ensures) (c .before .checked .given .1))
@@ -30,7 +30,7 @@ returns-3 c =
     let w = c .before .before in
     let m = w .before .before .before .before .before in
     let f = done _ _ _ _ 0 (m .before .before .check .ensures) (m .checked2 .given .1) _ _ (w .write-rounding .ensures) in
-    (accepted-so (enough _ _ _ _ _ (m .before .before .check .ensures) (m .checked2 .given .1) (omega arith)) (f .1), λ _. f .0)
+    (accepted-so (enough _ _ _ _ _ (m .before .before .check .ensures) (m .checked2 .given .1) (omega arith)) (f .is), λ _. f .first)
 
 pub round-spec : {M : Type 1} → statement M
 round-spec =

@@ -8,24 +8,24 @@ round-grid-requires : tie.Need-round-grid-requires
 round-grid-requires c κs =
     let e = c .before .before in
     let s = e .before .before .before in
-    record { grid = table-grid (s .pre .0) _ (e .entries .ensures); some = s .pre .0 .some-denominator; len = refl }
+    record { grid = table-grid (s .pre .table) _ (e .entries .ensures); some = s .pre .table .some-denominator; len = refl }
 
 write-cells-requires : tie.Need-write-cells-requires
 write-cells-requires c κs =
     let g = c .before .before in
     let e = g .before .before .before in
     let s = e .before .before .before in
-    cells-ready (s .pre .0) (e .entries .ensures) (g .round-grid .ensures) _ (s .pre .1)
+    cells-ready (s .pre .table) (e .entries .ensures) (g .round-grid .ensures) _ (s .pre .room)
 
 returns : tie.Need-returns
 returns c =
     let w = c .before .before in
     let g = w .before .before .before in
     let e = g .before .before .before in
-    let s = e .before .before .before in (
-      array-first (s .pre .0) (e .entries .ensures) (g .round-grid .ensures),
-      rounding-written (s .pre .0) (e .entries .ensures) (g .round-grid .ensures) (s .pre .1) (w .write-cells .ensures),
-    )
+    let s = e .before .before .before in record {
+      first = array-first (s .pre .table) (e .entries .ensures) (g .round-grid .ensures);
+      is = rounding-written (s .pre .table) (e .entries .ensures) (g .round-grid .ensures) (s .pre .room) (w .write-cells .ensures);
+    }
 
 pub write-rounding-spec : {M : Type 1} → statement M
 write-rounding-spec =

@@ -16,7 +16,7 @@ loop-holds : tie.Need-loop-holds Inv-loop μ-loop
 loop-holds c = (omega arith, upto-none)
 
 with-requires : tie.Need-with-requires Inv-loop μ-loop
-with-requires c κs = let l = c .before .before .before .loop in (search needs, l .inv .1 .high (l .j) (omega arith))
+with-requires c κs = let l = c .before .before .before .loop in record { below = search needs; is = l .inv .1 .high (l .j) (omega arith) }
 
 loop-again : tie.Need-loop-again Inv-loop μ-loop
 loop-again c =

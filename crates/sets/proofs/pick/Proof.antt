@@ -10,7 +10,7 @@ abbrev μ-loop : tie.MeasureT-loop
 μ-loop a x q left₀ left = left
 
 loop-holds : tie.Need-loop-holds Inv-loop μ-loop
-loop-holds c = left-all (c .pre .0) (c .pre .1 .1)
+loop-holds c = left-all (c .pre .small) (c .pre .via)
 
 returns : tie.Need-returns Inv-loop μ-loop
 returns c = search (needs, left-found)

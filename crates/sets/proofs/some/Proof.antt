@@ -11,12 +11,12 @@ which : (x : ℕ) → 0 < x → x < 8192 → (j : ℕ) × (leadingZeros 32 x + s
 which x p h = let t = leading-top 32 x p (omega arith) in (t .0, t .1)
 
 sub-result : tie.Need-sub-result
-sub-result c = omega (arith, which (c .args .x) (c .pre .0) (c .pre .1) .1)
+sub-result c = omega (arith, which (c .args .x) (c .pre .some) (c .pre .small) .1)
 
 returns : tie.Need-returns
 returns c =
-    let t = which (c .args .x) (c .pre .0) (c .pre .1) in
-    some-is (c .args .x) (31 - leadingZeros 32 (c .args .x)) (c .pre .0) (c .pre .1) (omega (arith, t .1))
+    let t = which (c .args .x) (c .pre .some) (c .pre .small) in
+    some-is (c .args .x) (31 - leadingZeros 32 (c .args .x)) (c .pre .some) (c .pre .small) (omega (arith, t .1))
 
 pub some-spec : {M : Type 1} → statement M
 some-spec = tie.close (tie.spec sub-result (λ c. search needs) returns)

@@ -14,22 +14,22 @@ abbrev μ-loop : tie.MeasureT-loop
 μ-loop up₀ down₀ lack₀ row more columns₀ k₀ up down lack columns k = more - k
 
 nonzero-requires : tie.Need-nonzero-requires Inv-loop μ-loop
-nonzero-requires c κs = omega (arith, c .before .before .pre .1 .0)
+nonzero-requires c κs = omega (arith, c .before .before .pre .lack-len)
 
 loop-holds : tie.Need-loop-holds Inv-loop μ-loop
 loop-holds c =
     let s = c .before .before .before .pre in
-    (omega arith, row-none (s .0) (s .1 .0) (c .nonzero .ensures))
+    (omega arith, row-none (s .places) (s .lack-len) (c .nonzero .ensures))
 
 augment-requires : tie.Need-augment-requires Inv-loop μ-loop
 augment-requires c κs =
-    (apart-places (c .before .before .before .loop .inv .1 .places), c .before .before .before .before .before .before .before .pre .1 .1 .0)
+    record { apart = apart-places (c .before .before .before .loop .inv .1 .places); inside = c .before .before .before .before .before .before .before .pre .inside }
 
 -- a turn comes to a column
 column : (c : tie.After-augment Inv-loop μ-loop) → c .augment .result < 13
 column c =
-    let s = c .before .before .before .before .before .before .before .before .pre .1 .1 in
-    found (c .before .before .before .before .loop .inv .1) (s .0) (c .before .before .before .loop-test .taken) (s .1) (c .augment .ensures)
+    let s = c .before .before .before .before .before .before .before .before .pre in
+    found (c .before .before .before .before .loop .inv .1) (s .inside) (c .before .before .before .loop-test .taken) (s .room) (c .augment .ensures)
 
 element-copy-out-left : tie.Need-element-copy-out-left Inv-loop μ-loop
 element-copy-out-left c = column c
@@ -44,7 +44,7 @@ element-write-lack : tie.Need-element-write-lack Inv-loop μ-loop
 element-write-lack c = column (c .before)
 
 still-lacking-requires : tie.Need-still-lacking-requires Inv-loop μ-loop
-still-lacking-requires c κs = (column (c .before), c .before .augment .ensures .done (column (c .before)) .0)
+still-lacking-requires c κs = record { below = column (c .before); is = c .before .augment .ensures .done (column (c .before)) .0 }
 
 loop-again : tie.Need-loop-again Inv-loop μ-loop
 loop-again c =
@@ -53,7 +53,7 @@ loop-again c =
     (search needs, row-step (c .before .before .before .before .before .before .loop .inv .1) h (d .0) (d .1) (c .still-lacking .ensures))
 
 returns : tie.Need-returns Inv-loop μ-loop
-returns c = let a = c .before .loop .inv .1 in (a .places, row-all a (omega arith))
+returns c = let a = c .before .loop .inv .1 in record { places = a .places; filled = row-all a (omega arith) }
 
 pub fill-row-spec : {M : Type 1} → statement M
 fill-row-spec =

@@ -4,29 +4,30 @@ use borrow.Author.Needs.{needs}
 use mathlib.Core.Path.{_≡_}
 use native.Mathlib.Omega.{arith}
 use Prim.Native.Nat.{_≤_, _-_}
-use Rattle.margins.specs.Board.{Places, boardOf, First}
+use Rattle.margins.specs.Board.{CellsFixed}
 use Rattle.margins.proofs.Fixes.{first-none, first-next, cell-inside}
 
 abbrev Inv-loop : tie.InvT-loop
-Inv-loop up₀ down₀ one₀ n₀ up down one n = (n ≤ 144) × (Places up down one × First (boardOf up₀ down₀ one₀) (boardOf up down one) n)
+Inv-loop up₀ down₀ one₀ n₀ up down one n = (n ≤ 144) × CellsFixed up₀ down₀ one₀ up down one n
 
 abbrev μ-loop : tie.MeasureT-loop
 μ-loop up₀ down₀ one₀ n₀ up down one n = 144 - n
 
 loop-holds : tie.Need-loop-holds Inv-loop μ-loop
-loop-holds c = (omega arith, (c .pre, first-none))
+loop-holds c = (omega arith, record { places = c .pre; first = first-none })
 
 fix-requires : tie.Need-fix-requires Inv-loop μ-loop
 fix-requires c κs =
     let r = c .before in
     let turn = r .before .before .before .before in
-    (turn .before .loop .inv .1 .0, cell-inside (turn .loop-test .taken) (r .nth-row .ensures) (c .nth-column .ensures))
+    let inside = cell-inside (turn .loop-test .taken) (r .nth-row .ensures) (c .nth-column .ensures) in
+    record { places = turn .before .loop .inv .1 .places; row-inside = inside .0; column-inside = inside .1 }
 
 loop-again : tie.Need-loop-again Inv-loop μ-loop
-loop-again c = (search needs, (c .fix .ensures .0, search (needs, first-next)))
+loop-again c = (search needs, record { places = c .fix .ensures .places; first = search (needs, first-next) })
 
 returns : tie.Need-returns Inv-loop μ-loop
-returns c = (search needs, let l = c .before .loop in let e : l .n ≡ 144 = omega arith in rw e at (l .inv .1 .1))
+returns c = let l = c .before .loop in let e : l .n ≡ 144 = omega arith in rw e at (l .inv .1)
 
 pub fix-all-spec : {M : Type 1} → statement M
 fix-all-spec =

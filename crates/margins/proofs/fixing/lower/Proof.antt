@@ -10,12 +10,12 @@ augment-requires : tie.Need-augment-requires
 augment-requires c κs =
     let s = c .before .before .before .before .before in
     let w = c .before .before .before .without in
-    (apart-places (places-down (s .pre .0) (s .pre .1 .0) (s .pre .1 .1 .0) (s .pre .1 .1 .1) (w .ensures)), s .pre .1 .0)
+    record { apart = apart-places (places-down (s .pre .ready .places) (s .pre .ready .row-inside) (s .pre .ready .column-inside) (s .pre .is-one) (w .ensures)); inside = s .pre .ready .row-inside }
 
 with-requires : tie.Need-with-requires
 with-requires c κs =
     let s = c .before .before .before .before .before .before .before .before in
-    (s .pre .1 .1 .0, omega (arith, s .pre .0 .single (s .args .row) (s .args .column) (s .pre .1 .0) (s .pre .1 .1 .0), s .pre .1 .1 .1))
+    record { below = s .pre .ready .column-inside; is = omega (arith, s .pre .ready .places .single (s .args .row) (s .args .column) (s .pre .ready .row-inside) (s .pre .ready .column-inside), s .pre .is-one) }
 
 returns : tie.Need-returns
 returns c =
@@ -23,7 +23,7 @@ returns c =
     let w = c .before .before .before .before .before .before .before .without in
     let e : c .before .before .before .augment .result ≡ 13 = omega (arith, c .before .before .if1 .taken) in
     let d = c .before .before .before .augment .ensures .stuck e in
-    rw (d .0, d .1) (fix-one (s .pre .0) (s .pre .1 .0) (s .pre .1 .1 .0) (s .pre .1 .1 .1) (w .ensures) (c .before .before .before .before .single .ensures) (d .2) (c .with .ensures))
+    rw (d .0, d .1) (fix-one (s .pre .ready .places) (s .pre .ready .row-inside) (s .pre .ready .column-inside) (s .pre .is-one) (w .ensures) (c .before .before .before .before .single .ensures) (d .2) (c .with .ensures))
 
 returns-2 : tie.Need-returns-2
 returns-2 c =
@@ -31,7 +31,7 @@ returns-2 c =
     let w = c .before .before .before .before .before .without in
     let h : c .before .augment .result < 13 = omega (arith, c .before .augment .ensures .bound, c .if1 .left) in
     let d = c .before .augment .ensures .done h in
-    fix-zero (s .pre .0) (s .pre .1 .0) (s .pre .1 .1 .0) (s .pre .1 .1 .1) (w .ensures) (c .before .before .single .ensures) (d .0) (d .1)
+    fix-zero (s .pre .ready .places) (s .pre .ready .row-inside) (s .pre .ready .column-inside) (s .pre .is-one) (w .ensures) (c .before .before .single .ensures) (d .0) (d .1)
 
 pub lower-spec : {M : Type 1} → statement M
 lower-spec =

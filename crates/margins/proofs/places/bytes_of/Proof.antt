@@ -19,7 +19,7 @@ loop-holds c = (omega arith, record { len = refl; is = λ i h. absurd (omega ari
 write-row-requires : tie.Need-write-row-requires Inv-loop μ-loop
 write-row-requires c κs =
     let l = c .before .before .loop in
-    (search needs, (l .inv .1, λ q h. c .before .before .before .pre (l .p) q (omega arith) h))
+    record { inside = search needs; before = l .inv .1; single = λ q h. c .before .before .before .pre (l .p) q (omega arith) h }
 
 loop-again : tie.Need-loop-again Inv-loop μ-loop
 loop-again c = (search needs, bytes-as (c .write-row .ensures) (omega arith))

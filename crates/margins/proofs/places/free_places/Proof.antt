@@ -16,10 +16,10 @@ abbrev μ-loop : tie.MeasureT-loop
 μ-loop cap up₀ p₀ up p = 13 - p
 
 loop-holds : tie.Need-loop-holds Inv-loop μ-loop
-loop-holds c = (omega arith, (c .pre .1, λ i h. absurd (omega arith)))
+loop-holds c = (omega arith, (c .pre .len, λ i h. absurd (omega arith)))
 
 nonzero-requires : tie.Need-nonzero-requires Inv-loop μ-loop
-nonzero-requires c κs = omega (arith, c .before .before .before .pre .0 .len)
+nonzero-requires c κs = omega (arith, c .before .before .before .pre .caps .len)
 
 loop-again : tie.Need-loop-again Inv-loop μ-loop
 loop-again c =
@@ -29,7 +29,7 @@ loop-again c =
       (
         simp length-set (l .inv .1 .0),
         each-more (λ i x. (q : ℕ) → q < 13 → on x q ≡ at (s .args .cap .now) i q) (l .up) (l .p) _ (omega arith) (l .inv .1 .1)
-            (λ q h. omega (arith, c .nonzero .ensures .is q h, s .pre .0 .bit (l .p) q (omega arith) h)),
+            (λ q h. omega (arith, c .nonzero .ensures .is q h, s .pre .caps .bit (l .p) q (omega arith) h)),
       ),
     )
 

@@ -13,12 +13,12 @@ abbrev μ-loop : tie.MeasureT-loop
 μ-loop down one row b₀ fixed q₀ b q = 13 - q
 
 loop-holds : tie.Need-loop-holds Inv-loop μ-loop
-loop-holds c = (omega arith, bytes-as (c .before .pre .1 .0) (omega arith))
+loop-holds c = (omega arith, bytes-as (c .before .pre .before) (omega arith))
 
 bit-of-requires : tie.Need-bit-of-requires Inv-loop μ-loop
 bit-of-requires c κs =
-    let h = c .before .before .before .before .pre .1 .1 (c .before .before .loop .q) (omega arith) in
-    (search needs, (search needs, omega arith))
+    let h = c .before .before .before .before .pre .single (c .before .before .loop .q) (omega arith) in
+    record { row-inside = search needs; column-inside = search needs; single = omega arith }
 
 loop-again : tie.Need-loop-again Inv-loop μ-loop
 loop-again c = (search needs, bytes-next (omega arith) (omega arith) (c .before .before .before .loop .inv .1) (c .bit-of .ensures))

@@ -5,7 +5,7 @@ use Rattle.margins.proofs.search.augment.Statement.{statement}
 use Rattle.margins.proofs.search.augment.Tie as tie
 
 flip-path-requires : tie.Need-flip-path-requires
-flip-path-requires c κs = (c .before .before .before .before .before .before .before .before .before .before .pre .0, c .before .before .before .before .before .reach .ensures .found (c .before .before .before .before .if1 .taken) .1)
+flip-path-requires c κs = (c .before .before .before .before .before .before .before .before .before .before .pre .apart, c .before .before .before .before .before .reach .ensures .found (c .before .before .before .before .if1 .taken) .1)
 
 returns : tie.Need-returns
 returns c =

@@ -31,14 +31,14 @@ pick-requires-2 : tie.Need-pick-requires-2 Inv-loop μ-loop
 pick-requires-2 c κs =
     let a = raised (c .before .before .before .before .before .before .before .before .before .loop .inv) (c .before .before .before .before .before .before .pick .ensures) (c .before .before .before .flip .ensures) in
     let pos : 0 < c .before .before .before .before .before .before .before .before .before .loop .level = above (c .before .before .if1 .left) in
-    (cols-below a pos, (a .below, row-via a pos))
+    record { small = cols-below a pos; below = a .below; via = row-via a pos }
 
 flip-requires-2 : tie.Need-flip-requires-2 Inv-loop μ-loop
 flip-requires-2 c κs =
     let a = raised (c .before .before .before .before .before .before .before .before .before .before .before .before .loop .inv) (c .before .before .before .before .before .before .before .before .before .pick .ensures) (c .before .before .before .before .before .before .flip .ensures) in
     let pos : 0 < c .before .before .before .before .before .before .before .before .before .before .before .before .loop .level = above (c .before .before .before .before .before .if1 .left) in
     let d = c .before .before .pick2 .ensures in
-    ((a .way .down-len, a .way .up-len), (d .below, (a .below, (d .linked, row-free a pos d))))
+    record { a-len = a .way .down-len; b-len = a .way .up-len; p-inside = d .below; q-inside = a .below; in-a = d .linked; not-in-b = row-free a pos d }
 
 loop-again : tie.Need-loop-again Inv-loop μ-loop
 loop-again c =

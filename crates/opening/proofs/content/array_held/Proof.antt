@@ -11,7 +11,7 @@ mul-cells c = search (needs, sized-fits)
 read-array-requires : tie.Need-read-array-requires
 read-array-requires c κs =
     let pre = c .before .before .before .pre in
-    has-counts (pre .0 .sized) (pre .1) (sized-few (pre .0 .sized))
+    has-counts (pre .so-far .sized) (pre .there) (sized-few (pre .so-far .sized))
 
 weight-requires : tie.Need-weight-requires
 weight-requires c κs = search (needs, has-array)
@@ -20,13 +20,13 @@ add-weighted-requires : tie.Need-add-weighted-requires
 add-weighted-requires c κs =
     let read = c .before .before .before .before in
     let pre = read .before .before .before .before .pre in
-    read-addable (pre .0 .sized) (pre .1) (read .read-array .ensures) (pre .0)
+    read-addable (pre .so-far .sized) (pre .there) (read .read-array .ensures) (pre .so-far)
 
 held-requires : tie.Need-held-requires
 held-requires c κs =
     let read = c .before .before .before .before .before .before in
     let pre = read .before .before .before .before .pre in
-    read-counts (pre .0 .sized) (pre .1) (read .read-array .ensures) (pre .0)
+    read-counts (pre .so-far .sized) (pre .there) (read .read-array .ensures) (pre .so-far)
 
 returns : tie.Need-returns
 returns c =
@@ -34,7 +34,7 @@ returns c =
     let weighed = added .before .before .before in
     let read = weighed .before .before in
     let pre = read .before .before .before .before .pre in
-    array-tested (pre .0 .sized) (pre .1) (read .read-array .ensures) (pre .0) (weighed .weight .ensures) (added .add-weighted .ensures) (c .held .ensures)
+    array-tested (pre .so-far .sized) (pre .there) (read .read-array .ensures) (pre .so-far) (weighed .weight .ensures) (added .add-weighted .ensures) (c .held .ensures)
 
 pub array-held-spec : {M : Type 1} → statement M
 array-held-spec =

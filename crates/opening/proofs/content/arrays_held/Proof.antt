@@ -26,7 +26,7 @@ array-held-requires c κs =
     let tested = c .before in
     let loop = tested .before .loop .inv in
     let pre = tested .before .before .before .pre in
-    (record { sized = pre .sized; bounds = pre .bounds; sums-are = loop .3 }, rw (loop .1) at (tested .loop-test .taken))
+    record { so-far = record { sized = pre .sized; bounds = pre .bounds; sums-are = loop .3 }; there = rw (loop .1) at (tested .loop-test .taken) }
 
 returns : tie.Need-returns Inv-loop μ-loop
 returns c =

@@ -8,7 +8,7 @@ bounds-requires : tie.Need-bounds-requires
 bounds-requires c κs =
     let wide = c .before .before in
     let pre = wide .before .before .before .pre in
-    (table-shape pre, (rw (wide .wide .ensures .0) (pre .cells-are), record { low-length = refl; high-length = refl }))
+    record { shape = table-shape pre; cells-are = rw (wide .wide .ensures .0) (pre .cells-are); room = record { low-length = refl; high-length = refl } }
 
 arrays-held-requires : tie.Need-arrays-held-requires
 arrays-held-requires c κs =

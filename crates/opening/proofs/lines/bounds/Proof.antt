@@ -7,7 +7,7 @@ line-bounds-requires : tie.Need-line-bounds-requires
 line-bounds-requires c κs =
     let cells = c .before .before in
     let pre = cells .before .before .pre in
-    (rw (cells .cells-of .ensures) (placed-cells (pre .0)), pre .1)
+    record { placed = rw (cells .cells-of .ensures) (placed-cells (pre .shape)); cells-are = pre .cells-are; room = pre .room }
 
 line-bounds-requires-2 : tie.Need-line-bounds-requires-2
 line-bounds-requires-2 c κs =
@@ -16,7 +16,7 @@ line-bounds-requires-2 c κs =
     let cells = bounded .before .before .before in
     let pre = cells .before .before .pre in
     let left = rw (cells .cells-of .ensures) at (bounded .line-bounds .ensures) in
-    (rw (rows .rows-of .ensures) (placed-rows (pre .0)), (pre .1 .0, bounds-length left (pre .1 .1)))
+    record { placed = rw (rows .rows-of .ensures) (placed-rows (pre .shape)); cells-are = pre .cells-are; room = bounds-length left (pre .room) }
 
 line-bounds-requires-3 : tie.Need-line-bounds-requires-3
 line-bounds-requires-3 c κs =
@@ -28,7 +28,7 @@ line-bounds-requires-3 c κs =
     let pre = cells .before .before .pre in
     let left = rw (cells .cells-of .ensures) at (first .line-bounds .ensures) in
     let then = rw (rows .rows-of .ensures) at (second .line-bounds2 .ensures) in
-    (rw (columns .columns-of .ensures) (placed-columns (pre .0)), (pre .1 .0, bounds-length then (bounds-length left (pre .1 .1))))
+    record { placed = rw (columns .columns-of .ensures) (placed-columns (pre .shape)); cells-are = pre .cells-are; room = bounds-length then (bounds-length left (pre .room)) }
 
 returns : tie.Need-returns
 returns c =
@@ -38,7 +38,7 @@ returns c =
     let first = rows .before in
     let cells = first .before .before .before in
     let pre = cells .before .before .pre in
-    bounds-of (pre .1 .1) (rw (cells .cells-of .ensures) at (first .line-bounds .ensures)) (rw (rows .rows-of .ensures) at (second .line-bounds2 .ensures))
+    bounds-of (pre .room) (rw (cells .cells-of .ensures) at (first .line-bounds .ensures)) (rw (rows .rows-of .ensures) at (second .line-bounds2 .ensures))
     (rw (columns .columns-of .ensures) at (c .line-bounds3 .ensures))
 
 pub bounds-spec : {M : Type 1} → statement M

@@ -6,7 +6,7 @@ use Rattle.opening.proofs.lines.held.Tie as tie
 lines-between-requires : tie.Need-lines-between-requires
 lines-between-requires c κs =
     let pre = c .before .before .pre in
-    (rw (c .cells-of .ensures) (placed-cells (pre .shape)), pre .room)
+    record { placed = rw (c .cells-of .ensures) (placed-cells (pre .shape)); room = pre .room }
 
 returns : tie.Need-returns
 returns c =
@@ -16,7 +16,7 @@ returns c =
 lines-between-requires-2 : tie.Need-lines-between-requires-2
 lines-between-requires-2 c κs =
     let pre = c .before .before .before .before .before .pre in
-    (rw (c .rows-of .ensures) (placed-rows (pre .shape)), pre .room)
+    record { placed = rw (c .rows-of .ensures) (placed-rows (pre .shape)); room = pre .room }
 
 returns-2 : tie.Need-returns-2
 returns-2 c =
@@ -28,7 +28,7 @@ returns-2 c =
 lines-between-requires-3 : tie.Need-lines-between-requires-3
 lines-between-requires-3 c κs =
     let pre = c .before .before .before .before .before .before .before .before .pre in
-    (rw (c .columns-of .ensures) (placed-columns (pre .shape)), pre .room)
+    record { placed = rw (c .columns-of .ensures) (placed-columns (pre .shape)); room = pre .room }
 
 returns-3 : tie.Need-returns-3
 returns-3 c =

@@ -59,14 +59,14 @@ loop-again c =
     let tested = summed .before .before in
     let loop = tested .before .loop .inv in
     let start = tested .before .before .before in
-    let placed = start .pre .0 in
+    let placed = start .pre .placed in
     let at = rw (loop .1) at (tested .loop-test .taken) in (
       omega arith,
       loop .1,
       bounds-more (loop .2)
-          (lowered .u64-to-u32 .ensures ∙ whole-is placed (start .pre .1 .0) at (summed .sum .ensures) (divided .divide .ensures))
-          (c .u64-to-u322 .ensures ∙ up-is placed (start .pre .1 .0) at (summed .sum .ensures) (divided .divide .ensures) (gapped .u8-to-u64 .ensures))
-          (line-inside placed at) (start .pre .1 .1),
+          (lowered .u64-to-u32 .ensures ∙ whole-is placed (start .pre .cells-are) at (summed .sum .ensures) (divided .divide .ensures))
+          (c .u64-to-u322 .ensures ∙ up-is placed (start .pre .cells-are) at (summed .sum .ensures) (divided .divide .ensures) (gapped .u8-to-u64 .ensures))
+          (line-inside placed at) (start .pre .room),
     )
 
 returns : tie.Need-returns Inv-loop μ-loop

@@ -43,7 +43,7 @@ add-failed : tie.Need-add-failed Inv-loop μ-loop
 add-failed c =
     let tested = c .before .before .before .before .before in
     let loop = tested .before .loop .inv in
-    outside-fits (loop .2) _ _ _ (c .outside .ensures) (omega (arith, tested .before .before .before .pre .0 .few))
+    outside-fits (loop .2) _ _ _ (c .outside .ensures) (omega (arith, tested .before .before .before .pre .placed .few))
 
 loop-again : tie.Need-loop-again Inv-loop μ-loop
 loop-again c =

@@ -26,7 +26,7 @@ print-plan-bytes-requires c κs =
     let m = c .before .before .before in
     let k = m .before .before .before in
     let l = plan-listed (k .plan .ensures) (omega (arith, slice-aggregate-plan (k .before))) _ (m .planned2 .given .1) in
-    (l .laid, k .before .before .before .before .pre)
+    record { laid-out = l .laid; room = k .before .before .before .before .pre }
 
 returns : tie.Need-returns
 returns c =

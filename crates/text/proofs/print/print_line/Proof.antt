@@ -1,5 +1,4 @@
-use mathlib.Core.Path.{refl, sym, ap}
-use lib.ListN.{length}
+use mathlib.Core.Path.{refl, sym}
 use lib.Seq.{length-take-le}
 use borrow.Author.Needs.{needs}
 use Rattle.text.proofs.print.print_line.Statement.{statement}

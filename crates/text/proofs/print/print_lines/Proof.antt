@@ -21,20 +21,20 @@ sizes-requires : tie.Need-sizes-requires Inv-loop μ-loop
 sizes-requires c κs = search (needs, plan-long)
 
 add-n : tie.Need-add-n Inv-loop μ-loop
-add-n c = let sized = c .before in lines-fit _ (sized .before .before .before .pre .0) (sized .sizes .ensures)
+add-n c = let sized = c .before in lines-fit _ (sized .before .before .before .pre .laid-out) (sized .sizes .ensures)
 
 loop-holds : tie.Need-loop-holds Inv-loop μ-loop
 loop-holds c =
     let sized = c .before in
     let pre = sized .before .before .before .pre in
-    (omega (arith, lines-are _ (pre .0) (sized .sizes .ensures)), lines-few _ (pre .0) (sized .sizes .ensures), lines-none _ (pre .0) (sized .sizes .ensures) (pre .1))
+    (omega (arith, lines-are _ (pre .laid-out) (sized .sizes .ensures)), lines-few _ (pre .laid-out) (sized .sizes .ensures), lines-none _ (pre .laid-out) (sized .sizes .ensures) (pre .room))
 
 print-line-requires : tie.Need-print-line-requires Inv-loop μ-loop
 print-line-requires c κs =
     let turn = c .before in
     let loop = turn .before .loop .inv in
     let pre = turn .before .before .before .before .before .before .pre in
-    record { has = record { laid-out = pre .0; there = omega (arith, loop .0, turn .loop-test .taken) }; room = writing-room (loop .2) (turn .loop-test .taken) }
+    record { has = record { laid-out = pre .laid-out; there = omega (arith, loop .0, turn .loop-test .taken) }; room = writing-room (loop .2) (turn .loop-test .taken) }
 
 loop-again : tie.Need-loop-again Inv-loop μ-loop
 loop-again c = search (needs, writing-more)
