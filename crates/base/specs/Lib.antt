@@ -1,3 +1,4 @@
 pub mod Lists
 pub mod Buffers
 pub mod Fill
+pub mod Widths

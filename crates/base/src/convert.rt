@@ -1,6 +1,7 @@
 // Numbers in a wider or narrower type: one function a pair of types. A narrower type is asked to hold the number.
 ghost use mathlib.Core.Path.{_≡_};
-ghost use Prim.Native.Nat.{_≤_, _<_};
+ghost use Prim.Native.Nat.{_≤_};
+ghost use Rattle.base.specs.Widths.{Widened};
 
 // A byte in 64 bits.
 pub fn u8_to_u64(x: u8) -> u64
@@ -35,14 +36,14 @@ pub fn u64_to_u32(x: u64) -> u32
 
 // A number of 16 bits in 32.
 pub fn u16_to_u32(x: u16) -> u32
-    ensures { λ r. ⌜ (r ≡ x) × (r < 65536) ⌝ }
+    ensures { λ r. ⌜ Widened 65536 x r ⌝ }
 {
     x as u32
 }
 
 // A number of 16 bits in 64.
 pub fn u16_to_u64(x: u16) -> u64
-    ensures { λ r. ⌜ (r ≡ x) × (r < 65536) ⌝ }
+    ensures { λ r. ⌜ Widened 65536 x r ⌝ }
 {
     x as u64
 }

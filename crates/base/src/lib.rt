@@ -1,12 +1,11 @@
 // Lists, finite sums and lent buffers, with their laws; and numbers in a wider or narrower type.
-ghost use mathlib.Core.Path.{_≡_};
-ghost use Prim.Native.Nat.{_<_};
+ghost use Rattle.base.specs.Widths.{Widened};
 
 pub mod convert;
 
 // A number of 32 bits in 64, with its bound.
 pub fn wide(x: u32) -> u64
-    ensures { λ r. ⌜ (r ≡ x) × (r < 4294967296) ⌝ }
+    ensures { λ r. ⌜ Widened 4294967296 x r ⌝ }
 {
     x as u64
 }

@@ -198,11 +198,12 @@ module _ {s : Sizes} {b bits tally : List ℕ} (f : Fitted s b bits tally) where
     room = omega (arith, weights, f .bits-room);
   }
 
-  pub tally-length : s .rows * s .columns ≡ length (take (s .rows * s .columns) tally)
-  tally-length = sym (length-take-le _ tally (f .tally-room))
+  -- a part of the tally
+  pub tally-length : {n : ℕ} → n ≤ s .rows * s .columns → n ≡ length (take n tally)
+  tally-length h = sym (length-take-le _ tally (omega (arith, f .tally-room)))
 
-  pub tally-few : length (take (s .rows * s .columns) tally) ≤ 144
-  tally-few = omega (arith, tally-length, sized-few sized)
+  pub tally-few : {n : ℕ} → n ≤ s .rows * s .columns → length (take n tally) ≤ 144
+  tally-few h = omega (arith, tally-length h, sized-few sized)
 
   -- with the numbers taken of each array, and the sums by them
   module _ {taken sums : List ℕ} (t : taken ≡ takenNumbers (decode b .arrays) bits) (a : ArraysAdded b taken sums) where
@@ -219,7 +220,7 @@ module _ {s : Sizes} {b bits tally : List ℕ} (f : Fitted s b bits tally) where
     tally-test =
         every-ext cells _ (λ i. eqb (getD sums i 0) (getD (take cells tally) i 0))
         (λ i h. rw (sum-is i h, getD-take cells tally i 0 h) (eqb-sym (getD tally i 0) (getD sums i 0)))
-        ∙ ap (λ (n : ℕ). every n (λ i. eqb (getD sums i 0) (getD (take cells tally) i 0))) tally-length
+        ∙ ap (λ (n : ℕ). every n (λ i. eqb (getD sums i 0) (getD (take cells tally) i 0))) (tally-length (omega arith))
 
   module _ (n : ℕ) where
     fits-parts : fits (decode b) (recordOf n bits tally)

@@ -66,5 +66,6 @@ pub fn fits(plan: &[u8], s: Sizes, taken: u32, bits: &[u8], tally: &[u32]) -> bo
     }
     let numbers = taken_numbers(plan, s, bits);
     let sums = tally_of(plan, s, &numbers);
-    cells_met(&tally[..s.rows * s.columns], &sums)
+    let cells = s.rows * s.columns;
+    cells_met(&tally[..cells], &sums)
 }

@@ -1,6 +1,5 @@
 // What a plan that is laid out holds: its table, and the weight and the counts of each array.
 ghost use mathlib.Core.Path.{_≡_};
-ghost use Prim.Native.Nat.{_*_};
 ghost use Rattle.base.specs.Lists.{tabulate};
 ghost use Rattle.base.specs.Buffers.{written};
 ghost use Rattle.form.specs.Plan.{arrayAt};

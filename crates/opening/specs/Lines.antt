@@ -7,7 +7,7 @@ use lib.ListN.{length, getD}
 use lib.Dec.{leb}
 use Rattle.base.specs.Lists.{every}
 use Rattle.base.specs.Fill.{Filled}
-use Rattle.table.specs.Table.{maxColumns, maxCells, maxEntries, maxDenominator, maxExpected, places, total}
+use Rattle.table.specs.Table.{maxRows, maxColumns, maxCells, maxEntries, maxDenominator, maxExpected, places, total}
 use Rattle.table.specs.Whole.{down, up}
 use Rattle.table.specs.Shape.{Shape, Reach}
 use Rattle.opening.specs.declared.lines.Lines.{Lines}
@@ -16,6 +16,11 @@ use Rattle.opening.specs.Open.{heldTo}
 -- the places that entry l of a kind is the sum over
 abbrev pub linePlaces : Lines → ℕ → List ℕ
 linePlaces k l = places (l * k .stride) (k .step) (k .number)
+
+-- as many rows and columns as a table can have
+pub record Sides (r c : ℕ) : Type 0 where
+  pub rows : r ≤ maxRows
+  pub columns : c ≤ maxColumns
 
 -- the three kinds
 abbrev pub cellLines : ℕ → ℕ → Lines

@@ -1,6 +1,5 @@
 // Drawing: the array that belongs to a draw number.
 ghost use mathlib.Core.Path.{_≡_};
-ghost use Prim.Native.Nat.{_*_, _<_};
 ghost use lib.ListN.{length};
 ghost use Rattle.base.specs.Buffers.{written};
 ghost use Rattle.refusals.specs.Due.{Answers};

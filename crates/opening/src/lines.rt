@@ -1,10 +1,9 @@
 // The entries that each array of a plan is held to: of the table the bounds, which are found once, and of an array the sums between them.
 ghost use mathlib.Core.Path.{_≡_};
-ghost use Prim.Native.Nat.{_+_, _*_, _≤_};
 ghost use lib.ListN.{length};
-ghost use Rattle.table.specs.Table.{places, total, maxRows, maxColumns};
+ghost use Rattle.table.specs.Table.{places, total};
 ghost use Rattle.table.specs.Shape.{Reach};
-ghost use Rattle.opening.specs.Lines.{linePlaces, cellLines, rowLines, columnLines, BoundsReady, KindReady, BoundsFrom, Bounds, oneOutside, linesBetween, entriesBetween, KindHeld, Counts};
+ghost use Rattle.opening.specs.Lines.{linePlaces, Sides, cellLines, rowLines, columnLines, BoundsReady, KindReady, BoundsFrom, Bounds, oneOutside, linesBetween, entriesBetween, KindHeld, Counts};
 use base::convert::u8_to_u64;
 use base::convert::u16_to_u32;
 use base::convert::u64_to_u32;
@@ -21,7 +20,7 @@ pub struct Lines {
 
 // The cells, each the sum over one place.
 fn cells_of(rows: usize, columns: usize) -> Lines
-    requires { ⌜ (rows ≤ maxRows) × (columns ≤ maxColumns) ⌝ }
+    requires { ⌜ Sides rows columns ⌝ }
     ensures { λ r. ⌜ r ≡ cellLines rows columns ⌝ }
 {
     Lines {

@@ -9,7 +9,7 @@ use Rattle.refusals.specs.declared.Refusal.{Refusal}
 use Rattle.refusals.specs.declared.Refusal.the-variants.{Buffer}
 use Rattle.refusals.specs.Due.{Test, refuse, due, refusedOr}
 use Rattle.table.specs.Check.{tableTests}
-use Rattle.form.specs.Form.{encode}
+use Rattle.form.specs.Form.{minLength, encode}
 use Rattle.plan.specs.declared.Planned.{Planned}
 use Rattle.plan.specs.declared.Planned.the-variants.{Length, Refused}
 use Rattle.plan.specs.Rounds.{planOf}
@@ -37,5 +37,5 @@ plannedNumber (Refused x) = numberOf x
 
 -- the number tells which of the two it is: a length is 30 or more, and no refusal's number is
 abbrev pub Apart : Planned → Type 0
-Apart (Length n) = 30 ≤ n
-Apart (Refused x) = numberOf x < 30
+Apart (Length n) = minLength ≤ n
+Apart (Refused x) = numberOf x < minLength

@@ -32,6 +32,11 @@ pub record Rounded (w : ℕ) (e n : List ℕ) : Type 0 where
 abbrev pub limitAt : ℕ → List ℕ → List ℕ → ℕ → ℕ
 limitAt w e n k = limitOf w (getD e k 0) (getD n k 0)
 
+-- what the limits of such counts need, with room for them
+pub record LimitsReady (w : ℕ) (e n l : List ℕ) : Type 0 where
+  pub rounded : Rounded w e n
+  pub len : length l ≡ 169
+
 -- x is the smallest of 169 numbers
 pub record Smallest (l : List ℕ) (x : ℕ) : Type 0 where
   pub low : (k : ℕ) → k < 169 → x ≤ getD l k 0

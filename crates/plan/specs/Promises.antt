@@ -12,7 +12,7 @@ use Rattle.refusals.specs.Due.{after}
 use Rattle.table.specs.Table.{total, maxArrays}
 use Rattle.table.specs.Check.{tableRefusal}
 use Rattle.rounding.specs.Rounding.{isRounding}
-use Rattle.form.specs.Form.{planLength, decode}
+use Rattle.form.specs.Form.{minLength, maxLength, planLength, decode}
 use Rattle.opening.specs.Open.{Opens}
 use Rattle.plan.specs.Rounds.{planOf, AreRounds, notWhole}
 use Rattle.plan.specs.declared.Planned.{Planned}
@@ -33,8 +33,8 @@ pub record Promises (r c d : ℕ) (g : List ℕ) : Type 0 where
   pub most : length (planOf r c d g .arrays) ≤ maxArrays
   -- the stored plan has the length that 01 gives, from 30 to 50,912 bytes
   pub len : length (planBytes r c d g) ≡ planLength r c (length (planOf r c d g .arrays))
-  pub len-low : 30 ≤ length (planBytes r c d g)
-  pub len-high : length (planBytes r c d g) ≤ 50912
+  pub len-low : minLength ≤ length (planBytes r c d g)
+  pub len-high : length (planBytes r c d g) ≤ maxLength
   -- it opens, to this plan
   pub opening : Opens (planBytes r c d g)
   pub decodes : decode (planBytes r c d g) ≡ planOf r c d g

@@ -1,10 +1,9 @@
 // The limits of a round, and its weight.
 ghost use mathlib.Core.Path.{_≡_};
 ghost use Prim.Native.Nat.{min};
-ghost use lib.ListN.{length};
 ghost use Rattle.base.specs.Lists.{tabulate};
 ghost use Rattle.plan.specs.Rounds.{limitOf};
-ghost use Rattle.plan.specs.Grids.{LimitReady, Rounded, limitAt, Smallest, Bears, Lost};
+ghost use Rattle.plan.specs.Grids.{LimitReady, LimitsReady, limitAt, Smallest, Bears, Lost};
 
 // The limit of an entry e over w whose count is n: how much weight it bears until it leaves its bounds.
 pub fn limit(w: u64, e: u64, n: u64) -> u64
@@ -21,7 +20,7 @@ pub fn limit(w: u64, e: u64, n: u64) -> u64
 
 // The limits of all entries.
 pub fn limits(w: u64, e: &[u64; 169], n: &[u64; 169], l: &mut [u64; 169])
-    requires { ⌜ Rounded w (now e) (now n) × (length (now l) ≡ 169) ⌝ }
+    requires { ⌜ LimitsReady w (now e) (now n) (now l) ⌝ }
     ensures { λ _. ⌜ now (l .exit) ≡ tabulate 169 (limitAt w (now (e .entry)) (now (n .entry))) ⌝ }
 {
     for k in 0..169 {

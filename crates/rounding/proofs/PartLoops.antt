@@ -12,12 +12,11 @@ use borrow.Author.Tests.{eq-eqb, ne-eqb}
 use Rattle.base.proofs.SumLoops.{Added, added-more, added-all}
 use Rattle.base.proofs.Lists.{each-more}
 use Rattle.base.proofs.Listing.{ListedTo, listed-none, listed-more, listed-all}
-use Rattle.table.specs.Table.{maxEntry}
 use Rattle.table.specs.Whole.{down, up, gap}
 use Rattle.table.specs.Divide.{Divides}
 use Rattle.table.specs.declared.whole.Divided.{Divided}
 use Rattle.table.proofs.Roundings.{gap-le}
-use Rattle.rounding.specs.Lines.{kind, PartsReady, Parts, lineSum, LineFits, CellsFit, TotalsFit, LinesFit, Needs, BitsFit}
+use Rattle.rounding.specs.Lines.{kind, PartsReady, Parts, lineSum, LineFits, CellsFit, TotalsFit, LinesFit, Needs, BitsFit, CountReady}
 
 -- the parts of the first k entries
 pub record PartsTo (w : ℕ) (e low high cap : List ℕ) (k : ℕ) : Type 0 where
@@ -63,8 +62,8 @@ module _ (p q low high bit : ℕ) {x : ℕ} (e : x ≡ bit) where
   unfolding kind
   count-cell h k = simp (ne-eqb p 12 h, ne-eqb q 12 k, e)
 
-pub count-ready : {low high b : List ℕ} {k : ℕ} → BitsFit low high b → k < 169 → (getD low k 0 ≤ maxEntry + 1) × (getD b k 0 ≤ getD high k 0)
-count-ready {low} {high} {b} {k} t h = (t .small k, t .bits k h)
+pub count-ready : {low high b : List ℕ} {k : ℕ} → BitsFit low high b → k < 169 → CountReady (getD low k 0) (getD high k 0) (getD b k 0)
+count-ready {low} {high} {b} {k} t h = record { small = t .small k; enough = t .bits k h }
 
 -- a sum along a line
 abbrev pub LineTo : List ℕ → ℕ → ℕ → ℕ → ℕ → ℕ → Type 0

@@ -83,6 +83,15 @@ pub record IsGrid (e : List ℕ) : Type 0 where
   pub is : e ≡ gridOf rows columns cells
   pub small : (k : ℕ) → getD e k 0 ≤ maxEntry
 
+-- what a count needs, and all counts
+pub record CountReady (low high bit : ℕ) : Type 0 where
+  pub small : low ≤ maxEntry + 1
+  pub enough : bit ≤ high
+
+pub record CountsReady (low high b n : List ℕ) : Type 0 where
+  pub fit : BitsFit low high b
+  pub len : length n ≡ 169
+
 -- what the rounding of a grid over w into n needs
 pub record GridReady (w : ℕ) (e n : List ℕ) : Type 0 where
   pub grid : IsGrid e

@@ -1,10 +1,8 @@
 // A table's entries rounded down and up, and counts from them.
 ghost use mathlib.Core.Path.{_≡_};
-ghost use Prim.Native.Nat.{_+_, _-_, _≤_};
-ghost use lib.ListN.{length};
+ghost use Prim.Native.Nat.{_+_, _-_};
 ghost use Rattle.base.specs.Lists.{tabulate};
-ghost use Rattle.table.specs.Table.{maxEntry};
-ghost use Rattle.rounding.specs.Lines.{kind, PartsReady, Parts, BitsFit, countAt};
+ghost use Rattle.rounding.specs.Lines.{kind, PartsReady, Parts, CountReady, CountsReady, countAt};
 use base::convert::u8_to_u64;
 use table::whole::divide;
 
@@ -30,7 +28,7 @@ pub fn parts(
 // The count at row p and column q: the bit of a row or column total is taken off the entry rounded up, that of a cell or the grand total is added to it
 // rounded down.
 pub fn count(p: usize, q: usize, low: u64, high: u64, bit: u8) -> u64
-    requires { ⌜ (low ≤ maxEntry + 1) × (bit ≤ high) ⌝ }
+    requires { ⌜ CountReady low high bit ⌝ }
     ensures { λ r. ⌜ r ≡ kind p q (low + bit) (high - bit) ⌝ }
 {
     let one = u8_to_u64(bit);
@@ -48,7 +46,7 @@ pub fn count(p: usize, q: usize, low: u64, high: u64, bit: u8) -> u64
 
 // The counts of all entries.
 pub fn counts(low: &[u64; 169], high: &[u64; 169], bits: &[u8; 169], n: &mut [u64; 169])
-    requires { ⌜ BitsFit (now low) (now high) (now bits) × (length (now n) ≡ 169) ⌝ }
+    requires { ⌜ CountsReady (now low) (now high) (now bits) (now n) ⌝ }
     ensures { λ _. ⌜ now (n .exit) ≡ tabulate 169 (countAt (now (low .entry)) (now (high .entry)) (now (bits .entry))) ⌝ }
 {
     for k in 0..169 {

@@ -1,6 +1,6 @@
 // The check of a table's numbers: refusals 1 to 4.
 ghost use mathlib.Core.Path.{_≡_};
-ghost use Prim.Native.Nat.{_*_, _<_, _≤_};
+ghost use Prim.Native.Nat.{_≤_};
 ghost use Rattle.table.specs.Check.{upTo, checkOf, cellsWithin};
 use crate::Checked;
 use crate::Refusal;

@@ -1,6 +1,5 @@
 // Sums of cells.
 ghost use mathlib.Core.Path.{_≡_};
-ghost use Prim.Native.Nat.{_+_};
 ghost use lib.ListN.{length};
 ghost use Rattle.table.specs.Table.{places, total};
 ghost use Rattle.table.specs.Shape.{Reach};

@@ -21,7 +21,7 @@ use Rattle.form.specs.Parts.{Laid, HasArray, HasCounts, Sized}
 use Rattle.form.proofs.Layouts.{laid}
 use Rattle.form.proofs.Readings.{decode-arrays, counts-length, contents-room}
 use Rattle.form.proofs.Sizing.{cells-are, sized-few, sized-fits}
-use Rattle.text.specs.Text.{decimal, spaced, line, lines, lineNumbers, listing, refusedWord, refused}
+use Rattle.text.specs.Text.{decimal, spaced, line, printedLines, lineNumbers, listing, refusedWord, refused}
 use Rattle.text.specs.Write.{maxListing, Room, Wrote, gapBefore, planLine, LineOf, LineRead}
 use Rattle.text.proofs.Decimals.{decimal-most}
 use Rattle.text.proofs.Writes.{room-first, room-then, wrote-then, Writing, writing-none, writing-all, writing-room, writing-more}
@@ -39,8 +39,8 @@ unfolding joinTo
 join-cons f zero = append-nil (f 0)
 join-cons f (suc n) = sym (append-assoc (f 0) (joinTo n (λ i. f (suc i))) (f (suc n))) ∙ ap (λ l. l ++ f (suc n)) (join-cons f n)
 
-lines-join : (l : List (List ℕ)) → lines l ≡ joinTo (length l) (λ k. line (getD l k []))
-unfolding lines
+lines-join : (l : List (List ℕ)) → printedLines l ≡ joinTo (length l) (λ k. line (getD l k []))
+unfolding printedLines
 lines-join [] = sym (join-none _)
 lines-join (x ∷ l) = ap (λ k. line x ++ k) (lines-join l) ∙ join-cons (λ k. line (getD (x ∷ l) k [])) (length l)
 

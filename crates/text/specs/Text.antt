@@ -67,16 +67,16 @@ spaced (x ∷ y ∷ l) = decimal x ++ (32 ∷ spaced (y ∷ l))
 unfoldable pub line : List ℕ → List ℕ
 line l = spaced l ++ (10 ∷ [])
 
-unfoldable pub lines : List (List ℕ) → List ℕ
-lines [] = []
-lines (l ∷ ls) = line l ++ lines ls
+unfoldable pub printedLines : List (List ℕ) → List ℕ
+printedLines [] = []
+printedLines (l ∷ ls) = line l ++ printedLines ls
 
 -- "It prints `r c D K`, then a line an array: the weight, then the counts in row order"
 unfoldable pub lineNumbers : Plan → List (List ℕ)
 lineNumbers p = (p .rows ∷ p .columns ∷ p .denominator ∷ length (p .arrays) ∷ []) ∷ map (λ a. a .weight ∷ a .counts) (p .arrays)
 
 unfoldable pub listing : Plan → List ℕ
-listing p = lines (lineNumbers p)
+listing p = printedLines (lineNumbers p)
 
 -- the bytes of "refused"
 abbrev pub refusedWord : List ℕ

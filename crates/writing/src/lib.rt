@@ -60,7 +60,7 @@ fn amount(denominator: u32, weights: &[u32], i: usize) -> u32
 }
 
 // Puts an entry of the contents at a place.
-fn entry(amount: u32, offset: u32, at: usize, plan: &mut [u8])
+fn contents_entry(amount: u32, offset: u32, at: usize, plan: &mut [u8])
     requires { ⌜ at + 8 ≤ length (now plan) ⌝ }
     ensures { λ _. ⌜ now (plan .exit) ≡ putAt (now (plan .entry)) at (contentsEntry amount offset) ⌝ }
 {
@@ -75,7 +75,7 @@ fn contents(s: Sizes, weights: &[u32], plan: &mut [u8])
 {
     let arrays = s.arrays;
     for i in 0..arrays + 1 {
-        entry(
+        contents_entry(
             amount(s.denominator, weights, i),
             body_at(s.rows, s.columns, arrays, i) as u32,
             8 + 8 * i,

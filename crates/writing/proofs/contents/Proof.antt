@@ -17,8 +17,8 @@ abbrev μ-loop : tie.MeasureT-loop
 loop-holds : tie.Need-loop-holds Inv-loop μ-loop
 loop-holds c = search (needs, put-none)
 
-cast-entry : tie.Need-cast-entry Inv-loop μ-loop
-cast-entry c =
+cast-contents-entry : tie.Need-cast-contents-entry Inv-loop μ-loop
+cast-contents-entry c =
     let test = c .before .before in
     offset-small (test .before .before .before .before .pre) (test .loop-test .taken) (test .before .loop .inv .2) (c .body-at .ensures)
 
@@ -31,7 +31,7 @@ loop-again c =
       search needs,
       loop .1,
       loop .2,
-      entries-more (test .before .before .before .before .pre) (test .loop-test .taken) (loop .2) _ _ (loop .3) _ _ (body .before .amount .ensures) (body .body-at .ensures) (put .entry .ensures),
+      entries-more (test .before .before .before .before .pre) (test .loop-test .taken) (loop .2) _ _ (loop .3) _ _ (body .before .amount .ensures) (body .body-at .ensures) (put .contents-entry .ensures),
     )
 
 returns : tie.Need-returns Inv-loop μ-loop
@@ -47,7 +47,7 @@ contents-spec =
     loop-holds
     (λ c κs. search needs)
     (λ c κs. search needs)
-    cast-entry
+    cast-contents-entry
     (λ c. search needs)
     (λ c. search needs)
     (λ c κs. search needs)

@@ -8,14 +8,14 @@ bounds-requires : tie.Need-bounds-requires
 bounds-requires c κs =
     let wide = c .before .before in
     let pre = wide .before .before .before .pre in
-    record { shape = table-shape pre; cells-are = rw (wide .wide .ensures .0) (pre .cells-are); room = record { low-length = refl; high-length = refl } }
+    record { shape = table-shape pre; cells-are = rw (wide .wide .ensures .is) (pre .cells-are); room = record { low-length = refl; high-length = refl } }
 
 arrays-held-requires : tie.Need-arrays-held-requires
 arrays-held-requires c κs =
     let bounded = c .before .before .before in
     let wide = bounded .before .before .before in
     let pre = wide .before .before .before .pre in
-    table-arrays pre (rw (wide .wide .ensures .0) at (bounded .bounds .ensures))
+    table-arrays pre (rw (wide .wide .ensures .is) at (bounded .bounds .ensures))
 
 returns : tie.Need-returns
 returns c =

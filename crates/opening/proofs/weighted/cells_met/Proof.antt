@@ -18,13 +18,13 @@ loop-holds c = search (needs, cells-none-met)
 returns : tie.Need-returns Inv-loop μ-loop
 returns c =
     let read = c .before in
-    cell-unmet _ _ (read .wide .ensures .0) (read .before .before .before .loop-test .taken) (c .if1 .taken)
+    cell-unmet _ _ (read .wide .ensures .is) (read .before .before .before .loop-test .taken) (c .if1 .taken)
 
 loop-again : tie.Need-loop-again Inv-loop μ-loop
 loop-again c =
     let read = c .before in
     let loop = read .before .before .before .before .loop .inv in
-    (omega arith, cell-met _ _ (read .wide .ensures .0) (loop .1) (c .if1 .left))
+    (omega arith, cell-met _ _ (read .wide .ensures .is) (loop .1) (c .if1 .left))
 
 returns-2 : tie.Need-returns-2 Inv-loop μ-loop
 returns-2 c = search (needs, cells-all-met)

@@ -18,7 +18,7 @@ loop-holds c = search (needs, listed-none)
 limit-requires : tie.Need-limit-requires Inv-loop μ-loop
 limit-requires c κs =
     let turn = c .before .before in
-    limit-ready (turn .before .before .pre .0) (turn .loop-test .taken)
+    limit-ready (turn .before .before .pre .rounded) (turn .loop-test .taken)
 
 loop-again : tie.Need-loop-again Inv-loop μ-loop
 loop-again c = search (needs, listed-more)

@@ -8,7 +8,7 @@ limits-requires : tie.Need-limits-requires
 limits-requires c κs =
     let g = c .before .before .before in
     let s = g .before .before .before in
-    (rounded (s .pre .some) (s .pre .small) (s .pre .grid) (g .round-grid .ensures), refl)
+    record { rounded = rounded (s .pre .some) (s .pre .small) (s .pre .grid) (g .round-grid .ensures); len = refl }
 
 lose-requires : tie.Need-lose-requires
 lose-requires c κs =

@@ -24,7 +24,7 @@ counts-requires c κs =
     let x = y .before .before .before in
     let a = x .before .before .before in
     let s = a .before .before .before .before in
-    (bits-fit (s .pre .grid) (s .pre .some) (a .parts .ensures) (x .needs .ensures) (y .needs2 .ensures) (z .first .ensures), s .pre .len)
+    record { fit = bits-fit (s .pre .grid) (s .pre .some) (a .parts .ensures) (x .needs .ensures) (y .needs2 .ensures) (z .first .ensures); len = s .pre .len }
 
 returns : tie.Need-returns
 returns c =

@@ -18,7 +18,7 @@ loop-holds c = search (needs, listed-none)
 count-requires : tie.Need-count-requires Inv-loop μ-loop
 count-requires c κs =
     let turn = c .before .before .before in
-    count-ready (turn .before .before .pre .0) (turn .loop-test .taken)
+    count-ready (turn .before .before .pre .fit) (turn .loop-test .taken)
 
 loop-again : tie.Need-loop-again Inv-loop μ-loop
 loop-again c = search (needs, listed-more)

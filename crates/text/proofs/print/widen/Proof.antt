@@ -20,7 +20,7 @@ loop-holds c = search (needs, filled-none)
 loop-again : tie.Need-loop-again Inv-loop μ-loop
 loop-again c =
     let loop = c .before .before .before .loop .inv in
-    (omega arith, loop .1, filled-more (loop .2) _ (c .u16-to-u32 .ensures .0) (omega arith))
+    (omega arith, loop .1, filled-more (loop .2) _ (c .u16-to-u32 .ensures .is) (omega arith))
 
 returns : tie.Need-returns Inv-loop μ-loop
 returns c = search (needs, filled-to)
