@@ -9,7 +9,7 @@ use lib.ListN.{length, getD}
 use lib.Dec.{eqb}
 use native.Mathlib.Decide.{ℕ-discrete}
 use borrow.Author.Count.{below-more}
-use borrow.Author.Tests.{not-true, not-false, eqb-true, eq-eqb, ne-eqb}
+use borrow.Author.Tests.{not-false, eqb-true, eq-eqb, ne-eqb}
 use Rattle.base.specs.Lists.{tabulate, sumTo, all, every}
 use Rattle.base.proofs.Sums.{sum-ext, sum-zero, sum-term}
 use Rattle.base.proofs.Lists.{length-tabulate, getD-tabulate, tabulate-ext, all-append, all-intro, all-elim, all-fails}
@@ -79,9 +79,6 @@ module _ {test : ℕ → Bool} {i : ℕ} (p : Passed test i) where
   module _ (b : Bool) (e : b ≡ test i) where
     pub passed-next : not b ≡ false → Passed test (i + 1)
     passed-next h = passed-more (sym e ∙ not-false b h)
-
-    pub passed-not : {n : ℕ} → i < n → not b ≡ true → false ≡ every n test
-    passed-not {n} l h = every-not test n i l (sym e ∙ not-true b h)
 
 -- a sum is 0 exactly if each number is
 pub sum-none : (n : ℕ) (f : ℕ → ℕ) → every n (λ i. eqb (f i) 0) ≡ eqb (sumTo n f) 0

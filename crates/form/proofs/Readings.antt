@@ -1,5 +1,5 @@
 -- What the readers of a plan that is laid out find. Assumes nothing.
-use mathlib.Core.Path.{_≡_, refl, sym, ap, _∙_}
+use mathlib.Core.Path.{_≡_, sym, ap, _∙_}
 use mathlib.Core.Bool.{true}
 use mathlib.Core.List.{List}
 use Prim.Native.Nat.{ℕ, suc, _+_, _*_, _-_, _<_, _≤_}
@@ -28,10 +28,6 @@ module _ (b : List ℕ) where
   pub decode-arrays : length (decode b .arrays) ≡ arraysOf b
   unfolding decode
   decode-arrays = length-tabulate (arraysOf b) held
-
-  pub decode-sizes : (decode b .rows ≡ rowsOf b) × (decode b .columns ≡ columnsOf b)
-  unfolding decode
-  decode-sizes = (refl, refl)
 
   module _ (k : ℕ) (h : k < length (decode b .arrays)) where
     few : k < arraysOf b

@@ -71,12 +71,6 @@ module _ {r c : ℕ} {g : List ℕ} (s : Shape r c g) where
   few : r * c ≤ 144
   few = mul-le-mul (s .rows) (s .columns)
 
-  pub cells-product : Fits w64 (r * c)
-  cells-product = record { fits = omega (arith, few) }
-
-  pub cells-and-rows : Fits w64 (r * c + r)
-  cells-and-rows = record { fits = omega (arith, few, s .rows) }
-
   pub placed-cells : Placed (cellLines r c) 0 (length g)
   placed-cells = record {
     few = few;

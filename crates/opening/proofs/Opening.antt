@@ -62,7 +62,6 @@ pub record IsOpen (s : Sizes) (b : List ℕ) : Type 0 where
   pub sizes : s ≡ sizesOf b
   pub opens : Opens b
   pub laid-out : laidOut b ≡ true
-  pub consistent-is : consistent (decode b) ≡ true
 
 -- an answer tells what is due
 module _ (b : List ℕ) where
@@ -71,7 +70,7 @@ module _ (b : List ℕ) where
   is-open s e = go (openRefusal b) refl e
     where
       go : (o : Option Refusal) → openRefusal b ≡ o → refusedOr opened.Refused (opened.Plan (sizesOf b)) o ≡ opened.Plan s → IsOpen s b
-      go none p q = record { sizes = cc; opens = p; laid-out = opens-layout b p; consistent-is = opens-content b p }
+      go none p q = record { sizes = cc; opens = p; laid-out = opens-layout b p }
       go (some x) p q = absurd (let z : _≡_ {A = ℕ} 0 1 = cc in omega arith)
 
   pub is-refused : (x : Refusal) → openAnswer b ≡ opened.Refused x → openRefusal b ≡ some x

@@ -45,8 +45,5 @@ module _ (b : List ℕ) (h : Opens b) where
   pub opens-each : Consistent (decode b)
   opens-each = consistent-each (decode b) (opens-content b h)
 
-  pub opens-within : (i : ℕ) → i < length (decode b .cells) → getD (decode b .cells) i 0 ≤ 1000 * decode b .denominator
-  opens-within = opens-each .within
-
   pub weights-add-up : sum (map (λ a. a .weight) (decode b .arrays)) ≡ decode b .denominator
   weights-add-up = opens-each .weights

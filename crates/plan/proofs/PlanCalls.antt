@@ -46,9 +46,6 @@ module _ {r c d : ℕ} {g : List ℕ} {k : ℕ} {weights counts : List ℕ} (a :
   t : IsTable r c d g
   t = a .rounds .table
 
-  pub denominator-fits : d ≤ 4294967295
-  denominator-fits = omega (arith, t .denominator)
-
   pub length-ready : Bounded r c k
   length-ready = sizes a .0
 

@@ -102,10 +102,6 @@ module _ (p : Plan) where
   unfolding listing
   listing-whole = ap (λ (n : ℕ). joinTo n (λ k. line (planLine p k))) (sym lines-many) ∙ sym (lines-join (lineNumbers p))
 
-  head-line : planLine p 0 ≡ p .rows ∷ p .columns ∷ p .denominator ∷ length (p .arrays) ∷ []
-  unfolding lineNumbers
-  head-line = refl
-
   pub array-line : (k : ℕ) → k < length (p .arrays) → planLine p (suc k) ≡ arrayLine (arrayAt (p .arrays) k)
   unfolding lineNumbers
   array-line k h = go (p .arrays) k h
