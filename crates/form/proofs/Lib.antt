@@ -5,3 +5,4 @@ pub mod Decodings
 pub mod Readings
 pub mod Finds
 pub mod Sizing
+pub mod Examples

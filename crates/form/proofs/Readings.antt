@@ -16,7 +16,7 @@ use Rattle.base.proofs.Lists.{length-tabulate, getD-tabulate, tabulate-ext}
 use Rattle.form.specs.declared.Sizes.{Sizes}
 use Rattle.form.specs.Plan.{Weighted, arrayAt, cellCount}
 use Rattle.form.specs.Form.{bodyAt, rowsOf, columnsOf, arraysOf, amountOf, offsetOf, sizesOf, cellOf, countOf, laidOut, decode}
-use Rattle.form.specs.Parts.{Laid, cellIn, countIn, Body, HasTable, HasArray, HasCounts}
+use Rattle.form.specs.Parts.{Bounded, Laid, cellIn, countIn, Body, HasTable, HasArray, HasCounts}
 use Rattle.form.proofs.Numbers.{rest, number-drop, number-small, part-room}
 use Rattle.form.proofs.Layouts.{cells-few, cells-fit, laid}
 
@@ -135,8 +135,8 @@ module _ {b : List ℕ} {k : ℕ} {counts : List ℕ} (h : HasCounts b k counts)
   array-inside = body-inside array-laid k (omega (arith, h .array .there, decode-arrays b))
 
   module _ {s : Sizes} (e : s ≡ sizesOf b) where
-    pub array-fits : Fits w64 (s .rows * s .columns)
-    array-fits = rw e (cells-fit (array-laid .sizes))
+    pub array-sizes : Bounded (s .rows) (s .columns) (s .arrays)
+    array-sizes = rw e (array-laid .sizes)
 
     module _ {at : ℕ} (a : at ≡ offsetOf b (k + 1)) where
       pub array-begins : at ≤ length b

@@ -2,3 +2,4 @@ pub mod Plan
 pub mod Form
 pub mod Parts
 pub mod Find
+pub mod Examples

@@ -11,7 +11,7 @@ use Rattle.base.proofs.Sums.{sum-front}
 use Rattle.form.specs.Plan.{Weighted, arrayAt, arrayFor}
 use Rattle.opening.specs.Parts.{weightsBefore}
 
-before-front : (a : Weighted) (l : List Weighted) (k : ℕ) → weightsBefore (a ∷ l) (suc k) ≡ a .weight + weightsBefore l k
+pub before-front : (a : Weighted) (l : List Weighted) (k : ℕ) → weightsBefore (a ∷ l) (suc k) ≡ a .weight + weightsBefore l k
 before-front a l k = sum-front k (λ j. arrayAt (a ∷ l) j .weight)
 
 -- "the weights before k add up to at most d, and with k to more than d"

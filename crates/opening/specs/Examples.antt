@@ -1,10 +1,95 @@
--- Plans that open, and for each condition of opening some that fail it. Assumes nothing.
+-- Plans that open, and for each condition of opening some that fail it; and draws (01, "Stored plan, form 1" and "Turned back"). The bytes are typed out,
+-- and no definition of this project builds them. Assumes nothing.
 use mathlib.Core.List.{List, [], _∷_, _++_}
-use Prim.Native.Nat.{ℕ}
-use lib.ListN.{set, replicate}
-use Rattle.form.specs.Plan.{Weighted}
-use Rattle.form.specs.Form.{encode}
-use Rattle.opening.specs.Open.{openAnswer, openedNumber}
+use Prim.Native.Nat.{ℕ, _+_, _*_, _/_, _%_}
+use lib.ListN.{length, set, take, replicate}
+use Rattle.base.specs.Lists.{joinTo}
+use Rattle.base.specs.Buffers.{written}
+use Rattle.refusals.specs.Answer.{answerNumber}
+use Rattle.refusals.specs.Due.{answerOf, after}
+use Rattle.form.specs.Examples.{square, wide, recurring}
+use Rattle.opening.specs.Open.{openAnswer, openedNumber, drawRefusal, drawnArray}
+
+-- one cell 2 over D 3: equal arrays recur, in any order
+abbrev pub threeOnes : List ℕ
+threeOnes =
+    1 ∷ 0 ∷ 1 ∷ 1 ∷ 3 ∷ 0 ∷ 0 ∷ 0
+    ∷ 3 ∷ 0 ∷ 0 ∷ 0 ∷ 40 ∷ 0 ∷ 0 ∷ 0
+    ∷ 1 ∷ 0 ∷ 0 ∷ 0 ∷ 44 ∷ 0 ∷ 0 ∷ 0
+    ∷ 1 ∷ 0 ∷ 0 ∷ 0 ∷ 46 ∷ 0 ∷ 0 ∷ 0
+    ∷ 1 ∷ 0 ∷ 0 ∷ 0 ∷ 48 ∷ 0 ∷ 0 ∷ 0
+    ∷ 2 ∷ 0 ∷ 0 ∷ 0
+    ∷ 1 ∷ 0
+    ∷ 0 ∷ 0
+    ∷ 1 ∷ 0 ∷ []
+
+-- two by two, D 2: every row and column keeps its bounds, and the grand total is 0 in one array and 2 in the other
+abbrev pub swinging : List ℕ
+swinging =
+    1 ∷ 0 ∷ 2 ∷ 2 ∷ 2 ∷ 0 ∷ 0 ∷ 0
+    ∷ 2 ∷ 0 ∷ 0 ∷ 0 ∷ 32 ∷ 0 ∷ 0 ∷ 0
+    ∷ 1 ∷ 0 ∷ 0 ∷ 0 ∷ 48 ∷ 0 ∷ 0 ∷ 0
+    ∷ 1 ∷ 0 ∷ 0 ∷ 0 ∷ 56 ∷ 0 ∷ 0 ∷ 0
+    ∷ 1 ∷ 0 ∷ 0 ∷ 0 ∷ 0 ∷ 0 ∷ 0 ∷ 0 ∷ 0 ∷ 0 ∷ 0 ∷ 0 ∷ 1 ∷ 0 ∷ 0 ∷ 0
+    ∷ 0 ∷ 0 ∷ 0 ∷ 0 ∷ 0 ∷ 0 ∷ 0 ∷ 0
+    ∷ 1 ∷ 0 ∷ 0 ∷ 0 ∷ 0 ∷ 0 ∷ 1 ∷ 0 ∷ []
+
+-- D 2, all cells 2: the cells vary though each is whole, rows and columns do not
+abbrev pub cellsVary : List ℕ
+cellsVary =
+    1 ∷ 0 ∷ 2 ∷ 2 ∷ 2 ∷ 0 ∷ 0 ∷ 0
+    ∷ 2 ∷ 0 ∷ 0 ∷ 0 ∷ 32 ∷ 0 ∷ 0 ∷ 0
+    ∷ 1 ∷ 0 ∷ 0 ∷ 0 ∷ 48 ∷ 0 ∷ 0 ∷ 0
+    ∷ 1 ∷ 0 ∷ 0 ∷ 0 ∷ 56 ∷ 0 ∷ 0 ∷ 0
+    ∷ 2 ∷ 0 ∷ 0 ∷ 0 ∷ 2 ∷ 0 ∷ 0 ∷ 0 ∷ 2 ∷ 0 ∷ 0 ∷ 0 ∷ 2 ∷ 0 ∷ 0 ∷ 0
+    ∷ 2 ∷ 0 ∷ 0 ∷ 0 ∷ 0 ∷ 0 ∷ 2 ∷ 0
+    ∷ 0 ∷ 0 ∷ 2 ∷ 0 ∷ 2 ∷ 0 ∷ 0 ∷ 0 ∷ []
+
+-- D 2, all cells 1: the rows vary though each is whole
+abbrev pub rowsVary : List ℕ
+rowsVary =
+    1 ∷ 0 ∷ 2 ∷ 2 ∷ 2 ∷ 0 ∷ 0 ∷ 0
+    ∷ 2 ∷ 0 ∷ 0 ∷ 0 ∷ 32 ∷ 0 ∷ 0 ∷ 0
+    ∷ 1 ∷ 0 ∷ 0 ∷ 0 ∷ 48 ∷ 0 ∷ 0 ∷ 0
+    ∷ 1 ∷ 0 ∷ 0 ∷ 0 ∷ 56 ∷ 0 ∷ 0 ∷ 0
+    ∷ 1 ∷ 0 ∷ 0 ∷ 0 ∷ 1 ∷ 0 ∷ 0 ∷ 0 ∷ 1 ∷ 0 ∷ 0 ∷ 0 ∷ 1 ∷ 0 ∷ 0 ∷ 0
+    ∷ 1 ∷ 0 ∷ 1 ∷ 0 ∷ 0 ∷ 0 ∷ 0 ∷ 0
+    ∷ 0 ∷ 0 ∷ 0 ∷ 0 ∷ 1 ∷ 0 ∷ 1 ∷ 0 ∷ []
+
+-- the columns vary
+abbrev pub columnsVary : List ℕ
+columnsVary =
+    1 ∷ 0 ∷ 2 ∷ 2 ∷ 2 ∷ 0 ∷ 0 ∷ 0
+    ∷ 2 ∷ 0 ∷ 0 ∷ 0 ∷ 32 ∷ 0 ∷ 0 ∷ 0
+    ∷ 1 ∷ 0 ∷ 0 ∷ 0 ∷ 48 ∷ 0 ∷ 0 ∷ 0
+    ∷ 1 ∷ 0 ∷ 0 ∷ 0 ∷ 56 ∷ 0 ∷ 0 ∷ 0
+    ∷ 1 ∷ 0 ∷ 0 ∷ 0 ∷ 1 ∷ 0 ∷ 0 ∷ 0 ∷ 1 ∷ 0 ∷ 0 ∷ 0 ∷ 1 ∷ 0 ∷ 0 ∷ 0
+    ∷ 1 ∷ 0 ∷ 0 ∷ 0 ∷ 1 ∷ 0 ∷ 0 ∷ 0
+    ∷ 0 ∷ 0 ∷ 1 ∷ 0 ∷ 0 ∷ 0 ∷ 1 ∷ 0 ∷ []
+
+-- one cell with one array: D, the cell, the weight and the count, each below 256
+abbrev pub oneCell : ℕ → ℕ → ℕ → ℕ → List ℕ
+oneCell d g w n =
+    1 ∷ 0 ∷ 1 ∷ 1 ∷ 1 ∷ 0 ∷ 0 ∷ 0
+    ∷ d ∷ 0 ∷ 0 ∷ 0 ∷ 24 ∷ 0 ∷ 0 ∷ 0
+    ∷ w ∷ 0 ∷ 0 ∷ 0 ∷ 28 ∷ 0 ∷ 0 ∷ 0
+    ∷ g ∷ 0 ∷ 0 ∷ 0
+    ∷ n ∷ 0 ∷ []
+
+-- cells 0 over D 1 with one array: r and c, the offset of the array, and then the zeros of both bodies
+abbrev pub zeros : ℕ → ℕ → ℕ → ℕ → List ℕ
+zeros r c offset bytes =
+    1 ∷ 0 ∷ r ∷ c ∷ 1 ∷ 0 ∷ 0 ∷ 0
+    ∷ 1 ∷ 0 ∷ 0 ∷ 0 ∷ 24 ∷ 0 ∷ 0 ∷ 0
+    ∷ 1 ∷ 0 ∷ 0 ∷ 0 ∷ offset ∷ 0 ∷ 0 ∷ 0
+    ∷ replicate bytes 0
+
+-- one cell 0 over D 171 with 171 arrays, weight 1 each
+abbrev pub manyArrays : List ℕ
+manyArrays =
+    1 ∷ 0 ∷ 1 ∷ 1 ∷ 171 ∷ 0 ∷ 0 ∷ 0
+    ∷ 171 ∷ 0 ∷ 0 ∷ 0 ∷ 104 ∷ 5 ∷ 0 ∷ 0
+    ∷ (joinTo 171 (λ k. 1 ∷ 0 ∷ 0 ∷ 0 ∷ (1388 + 2 * k) % 256 ∷ (1388 + 2 * k) / 256 ∷ 0 ∷ 0 ∷ []) ++ replicate 346 0)
 
 -- a stored plan, and the number that opening it gives
 pub record Case : Type 0 where
@@ -14,55 +99,121 @@ pub record Case : Type 0 where
 abbrev pub opened : Case → ℕ
 opened x = openedNumber (openAnswer (x .bytes))
 
-abbrev pub withWeight : ℕ → List ℕ → Weighted
-withWeight w n = record { weight = w; counts = n }
-
--- the stored plan of a table and its weighted arrays
-abbrev pub bytesOf : ℕ → ℕ → ℕ → List ℕ → List Weighted → List ℕ
-bytesOf r c d g l = encode (record { rows = r; columns = c; denominator = d; cells = g; arrays = l })
-
--- 01's third example: two by two, D 2, all cells 1
-abbrev pub halves : List Weighted → List ℕ
-halves = bytesOf 2 2 2 (1 ∷ 1 ∷ 1 ∷ 1 ∷ [])
-
-abbrev pub good : List ℕ
-good = halves (withWeight 1 (0 ∷ 1 ∷ 1 ∷ 0 ∷ []) ∷ withWeight 1 (1 ∷ 0 ∷ 0 ∷ 1 ∷ []) ∷ [])
+abbrev pub gives : List ℕ → ℕ → Case
+gives b n = record { bytes = b; number = n }
 
 abbrev pub cases : List Case
 cases =
-    record { bytes = good; number = 0 }
-    -- equal arrays may recur, in any order
-    ∷ record { bytes = bytesOf 1 1 3 (2 ∷ []) (withWeight 1 (1 ∷ []) ∷ withWeight 1 (0 ∷ []) ∷ withWeight 1 (1 ∷ []) ∷ []); number = 0 }
-    -- the grand total is not tested
-    ∷ record { bytes = bytesOf 2 2 2 (1 ∷ 0 ∷ 0 ∷ 1 ∷ []) (withWeight 1 (0 ∷ 0 ∷ 0 ∷ 0 ∷ []) ∷ withWeight 1 (1 ∷ 0 ∷ 0 ∷ 1 ∷ []) ∷ []); number = 0 }
-    -- form, zero field, offsets of the table and of an array, length
-    ∷ record { bytes = set good 0 2; number = 5 }
-    ∷ record { bytes = set good 7 1; number = 5 }
-    ∷ record { bytes = set good 12 33; number = 5 }
-    ∷ record { bytes = set good 20 50; number = 5 }
-    ∷ record { bytes = good ++ (0 ∷ []); number = 5 }
-    -- 13 rows, 13 columns, D 65,536
-    ∷ record { bytes = bytesOf 13 1 1 (replicate 13 0) (withWeight 1 (replicate 13 0) ∷ []); number = 5 }
-    ∷ record { bytes = bytesOf 1 13 1 (replicate 13 0) (withWeight 1 (replicate 13 0) ∷ []); number = 5 }
-    ∷ record { bytes = bytesOf 1 1 65536 (0 ∷ []) (withWeight 65536 (0 ∷ []) ∷ []); number = 5 }
-    -- no rows, no columns, D 0
-    ∷ record { bytes = bytesOf 0 1 1 [] (withWeight 1 [] ∷ []); number = 5 }
-    ∷ record { bytes = bytesOf 1 0 1 [] (withWeight 1 [] ∷ []); number = 5 }
-    ∷ record { bytes = bytesOf 1 1 0 (0 ∷ []) (withWeight 1 (0 ∷ []) ∷ []); number = 5 }
+    gives square 0
+    ∷ gives wide 0
+    ∷ gives recurring 0
+    ∷ gives (oneCell 1 1 1 1) 0
+    ∷ gives threeOnes 0
+    -- the grand total of an array is not tested
+    ∷ gives swinging 0
+    -- form, zero field, r, c, K, offsets of the table and of an array, a byte more, a byte less
+    ∷ gives (set square 0 2) 5
+    ∷ gives (set square 1 1) 5
+    ∷ gives (set square 6 1) 5
+    ∷ gives (set square 7 1) 5
+    ∷ gives (set wide 2 3) 5
+    ∷ gives (set wide 3 2) 5
+    ∷ gives (set wide 4 6) 5
+    ∷ gives (set square 12 33) 5
+    ∷ gives (set square 20 50) 5
+    ∷ gives (set recurring 117 0) 5
+    ∷ gives (square ++ (0 ∷ [])) 5
+    ∷ gives (take 63 square) 5
+    -- 12 rows and 13, 12 columns and 13
+    ∷ gives (zeros 12 1 72 72) 0
+    ∷ gives (zeros 13 1 76 78) 5
+    ∷ gives (zeros 1 12 72 72) 0
+    ∷ gives (zeros 1 13 76 78) 5
+    -- no rows, no columns, D 0, D 65,535 and 65,536 with its only weight
+    ∷ gives (zeros 0 1 24 0) 5
+    ∷ gives (zeros 1 0 24 0) 5
+    ∷ gives (oneCell 0 0 1 0) 5
+    ∷ gives (set (set (set (set (oneCell 0 0 0 0) 8 255) 9 255) 16 255) 17 255) 0
+    ∷ gives (set (set (oneCell 0 0 0 0) 10 1) 18 1) 5
     -- 171 arrays, no arrays, and no bytes at all
-    ∷ record { bytes = bytesOf 1 1 171 (0 ∷ []) (replicate 171 (withWeight 1 (0 ∷ []))); number = 5 }
-    ∷ record { bytes = bytesOf 1 1 1 (0 ∷ []) []; number = 5 }
-    ∷ record { bytes = []; number = 5 }
-    -- a cell above 1000·D
-    ∷ record { bytes = bytesOf 1 1 1 (1001 ∷ []) (withWeight 1 (1001 ∷ []) ∷ []); number = 6 }
+    ∷ gives manyArrays 5
+    ∷ gives (1 ∷ 0 ∷ 1 ∷ 1 ∷ 0 ∷ 0 ∷ 0 ∷ 0 ∷ 1 ∷ 0 ∷ 0 ∷ 0 ∷ 16 ∷ 0 ∷ 0 ∷ 0 ∷ 0 ∷ 0 ∷ 0 ∷ 0 ∷ []) 5
+    ∷ gives [] 5
+    -- a cell of 1000·D and of one more, over D 1, with its count
+    ∷ gives (set (set (oneCell 1 232 1 232) 25 3) 29 3) 0
+    ∷ gives (set (set (oneCell 1 233 1 233) 25 3) 29 3) 6
     -- a weight of 0, and weights that add up to D − 1 and D + 1
-    ∷ record { bytes = bytesOf 1 1 1 (1 ∷ []) (withWeight 1 (1 ∷ []) ∷ withWeight 0 (1 ∷ []) ∷ []); number = 6 }
-    ∷ record { bytes = bytesOf 1 1 2 (0 ∷ []) (withWeight 1 (0 ∷ []) ∷ []); number = 6 }
-    ∷ record { bytes = bytesOf 1 1 2 (0 ∷ []) (withWeight 3 (0 ∷ []) ∷ []); number = 6 }
+    ∷ gives (set (set threeOnes 16 2) 32 0) 6
+    ∷ gives (oneCell 2 0 1 0) 6
+    ∷ gives (oneCell 2 0 3 0) 6
     -- cells that vary where lines do not, rows that vary, columns that vary
-    ∷ record { bytes = bytesOf 2 2 2 (2 ∷ 2 ∷ 2 ∷ 2 ∷ []) (withWeight 1 (2 ∷ 0 ∷ 0 ∷ 2 ∷ []) ∷ withWeight 1 (0 ∷ 2 ∷ 2 ∷ 0 ∷ []) ∷ []); number = 6 }
-    ∷ record { bytes = halves (withWeight 1 (1 ∷ 1 ∷ 0 ∷ 0 ∷ []) ∷ withWeight 1 (0 ∷ 0 ∷ 1 ∷ 1 ∷ []) ∷ []); number = 6 }
-    ∷ record { bytes = halves (withWeight 1 (1 ∷ 0 ∷ 1 ∷ 0 ∷ []) ∷ withWeight 1 (0 ∷ 1 ∷ 0 ∷ 1 ∷ []) ∷ []); number = 6 }
-    -- counts times weights that do not add up to g
-    ∷ record { bytes = bytesOf 1 1 2 (1 ∷ []) (withWeight 2 (0 ∷ []) ∷ []); number = 6 }
+    ∷ gives cellsVary 6
+    ∷ gives rowsVary 6
+    ∷ gives columnsVary 6
+    -- counts times weights that do not add up to the table
+    ∷ gives (oneCell 2 1 2 0) 6
+    -- 5 and 6 both apply
+    ∷ gives (oneCell 2 0 1 0 ++ (0 ∷ [])) 5
+    ∷ []
+
+-- a draw: a plan, a number and a buffer; the number that it returns, and the buffer as it leaves it
+pub record Draw : Type 0 where
+  pub plan : List ℕ
+  pub asked : ℕ
+  pub buffer : List ℕ
+  pub number : ℕ
+  pub result : List ℕ
+
+abbrev pub drawn : Draw → List ℕ
+drawn x =
+    let o = drawRefusal (x .plan) (x .asked) (length (x .buffer)) in
+    answerNumber (answerOf o) ∷ after o (written (drawnArray (x .plan) (x .asked)) (x .buffer)) (x .buffer)
+
+abbrev pub said : Draw → List ℕ
+said x = x .number ∷ x .result
+
+abbrev pub draws : List ℕ → ℕ → List ℕ → List ℕ → Draw
+draws b d buffer result = record { plan = b; asked = d; buffer = buffer; number = 0; result = result }
+
+abbrev pub refuses : List ℕ → ℕ → List ℕ → ℕ → Draw
+refuses b d buffer n = record { plan = b; asked = d; buffer = buffer; number = n; result = buffer }
+
+abbrev pub six : List ℕ
+six = 8 ∷ 8 ∷ 8 ∷ 8 ∷ 8 ∷ 8 ∷ []
+
+abbrev pub five : List ℕ
+five = 8 ∷ 8 ∷ 8 ∷ 8 ∷ 8 ∷ []
+
+abbrev pub drawCases : List Draw
+drawCases =
+    -- the arrays begin at numbers 0, 100, 594, 595, 600, 776 and 936
+    draws wide 0 six (300 ∷ 0 ∷ 66 ∷ 1 ∷ 1 ∷ 1 ∷ [])
+    ∷ draws wide 99 six (300 ∷ 0 ∷ 66 ∷ 1 ∷ 1 ∷ 1 ∷ [])
+    ∷ draws wide 100 six (300 ∷ 0 ∷ 66 ∷ 2 ∷ 0 ∷ 1 ∷ [])
+    ∷ draws wide 593 six (300 ∷ 0 ∷ 66 ∷ 2 ∷ 0 ∷ 1 ∷ [])
+    ∷ draws wide 594 six (300 ∷ 1 ∷ 66 ∷ 2 ∷ 0 ∷ 0 ∷ [])
+    ∷ draws wide 595 six (300 ∷ 1 ∷ 66 ∷ 2 ∷ 0 ∷ 1 ∷ [])
+    ∷ draws wide 600 six (301 ∷ 0 ∷ 66 ∷ 1 ∷ 0 ∷ 1 ∷ [])
+    ∷ draws wide 776 six (301 ∷ 0 ∷ 66 ∷ 1 ∷ 1 ∷ 1 ∷ [])
+    ∷ draws wide 936 six (301 ∷ 1 ∷ 65 ∷ 1 ∷ 0 ∷ 1 ∷ [])
+    ∷ draws wide 999 six (301 ∷ 1 ∷ 65 ∷ 1 ∷ 0 ∷ 1 ∷ [])
+    -- the second array has seven stretches of numbers
+    ∷ draws recurring 100 six (300 ∷ 0 ∷ 66 ∷ 2 ∷ 0 ∷ 1 ∷ [])
+    ∷ draws recurring 399 six (300 ∷ 0 ∷ 66 ∷ 2 ∷ 0 ∷ 1 ∷ [])
+    ∷ draws recurring 400 six (300 ∷ 0 ∷ 66 ∷ 2 ∷ 0 ∷ 1 ∷ [])
+    ∷ draws recurring 593 six (300 ∷ 0 ∷ 66 ∷ 2 ∷ 0 ∷ 1 ∷ [])
+    ∷ draws recurring 594 six (300 ∷ 1 ∷ 66 ∷ 2 ∷ 0 ∷ 0 ∷ [])
+    -- what the buffer has beyond the array stays
+    ∷ draws wide 0 (8 ∷ 8 ∷ 8 ∷ 8 ∷ 8 ∷ 8 ∷ 9 ∷ 7 ∷ []) (300 ∷ 0 ∷ 66 ∷ 1 ∷ 1 ∷ 1 ∷ 9 ∷ 7 ∷ [])
+    -- 5, 6, 7 and 8 alone
+    ∷ refuses (wide ++ (0 ∷ [])) 0 six 5
+    ∷ refuses (oneCell 2 0 1 0) 0 six 6
+    ∷ refuses wide 0 five 7
+    ∷ refuses wide 1000 six 8
+    -- two of them: 5 and 7, 5 and 8, 6 and 7, 6 and 8, 7 and 8
+    ∷ refuses (wide ++ (0 ∷ [])) 0 five 5
+    ∷ refuses (wide ++ (0 ∷ [])) 1000 six 5
+    ∷ refuses (oneCell 2 0 1 0) 0 [] 6
+    ∷ refuses (oneCell 2 0 1 0) 2 six 6
+    ∷ refuses wide 1000 five 7
     ∷ []

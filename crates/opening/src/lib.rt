@@ -1,7 +1,7 @@
 // Opening a stored plan, and drawing from it.
 ghost use mathlib.Core.Path.{_≡_};
 ghost use mathlib.Core.List.{map};
-ghost use Rattle.opening.specs.Examples.{cases, opened};
+ghost use Rattle.opening.specs.Examples.{cases, opened, drawCases, drawn, said};
 
 mod content;
 pub mod draw;
@@ -18,7 +18,8 @@ pub enum Opened {
     Refused(Refusal),
 }
 
-// The examples of plans that open and of plans that do not are as stated.
+// Plans typed out byte by byte open or are refused as the specification says, and so do draws from them: each condition, and each two refusals at once.
 pub fn claims()
-    ensures examples { λ _. ⌜ map opened cases ≡ map (λ x. x .number) cases ⌝ }
+    ensures opens { λ _. ⌜ map opened cases ≡ map (λ x. x .number) cases ⌝ }
+    ensures draws { λ _. ⌜ map drawn drawCases ≡ map said drawCases ⌝ }
 {}

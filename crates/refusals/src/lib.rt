@@ -19,7 +19,7 @@ pub enum Refusal {
     LargeCell,
     // form, zero field, sizes, an offset or the length of a stored plan wrong
     Layout,
-    // another condition of opening unmet
+    // a stored cell above 1000 times the denominator, or another condition of opening unmet
     Content,
     // a lent buffer shorter than its result or record
     Buffer,

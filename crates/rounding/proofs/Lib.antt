@@ -10,3 +10,4 @@ pub mod GridRoundings
 pub mod PartLoops
 pub mod CellWrites
 pub mod Calls
+pub mod Examples

@@ -12,7 +12,7 @@ use Rattle.table.specs.Whole.{down, up, roundsTo}
 use Rattle.rounding.specs.Order.{inOrder, arrayOf, Before, Choice, firstOf}
 
 -- "A controlled rounding is an array of counts n, one a cell [..], with totals formed from it. Each of its entries, totals included,
--- is the entry of the table divided by D, rounded down or up; a whole entry stays." The denominator is w; a count of an accepted table is at most 1,001.
+-- is the entry of the table divided by D, rounded down or up; a whole entry stays." The denominator is w; a count of an accepted table is at most 1,000.
 unfoldable pub isRounding : ℕ → ℕ → ℕ → List ℕ → List ℕ → Bool
 isRounding r c w g n = eqb (length n) (r * c) && all (λ s. roundsTo w (total g s) (total n s)) (entryPlaces r c)
 

@@ -1,5 +1,6 @@
 // Controlled roundings: the first of a table, in the stated order.
 ghost use mathlib.Core.Path.{_≡_};
+ghost use mathlib.Core.List.{map};
 ghost use mathlib.Core.Option.{none};
 ghost use lib.ListN.{length};
 ghost use Rattle.refusals.specs.Due.{Answers};
@@ -7,6 +8,7 @@ ghost use Rattle.base.specs.Buffers.{written};
 ghost use Rattle.rounding.specs.Rounding.{IsFirst, firstRounding};
 ghost use Rattle.rounding.specs.Call.{roundRefusal};
 ghost use Rattle.rounding.specs.Lines.{TableReady, FirstWritten};
+ghost use Rattle.rounding.specs.Examples.{candidates, roundsTable, roundCases, rounded, said};
 use crate::first::round_grid;
 use crate::write::write_cells;
 use grid::entries;
@@ -34,7 +36,8 @@ fn write_rounding(t: Table, cells: &[u32], counts: &mut [u16])
     write_cells(&n, rows, columns, counts, 0);
 }
 
-// Writes the first controlled rounding of a table, or returns the lowest refusal that applies.
+// Writes the first controlled rounding of a table, or returns the lowest refusal that applies. That one exists is promised here where the buffer has
+// room, and for every accepted table by `plan::plan`, whose first array it is (`Promises`).
 pub fn round(rows: u32, columns: u32, denominator: u32, cells: &[u32], counts: &mut [u16]) -> Answer
     ensures answers { λ r. ⌜ Answers (roundRefusal rows columns denominator (now (cells .entry)) (length (now (counts .entry))))
         (written (firstRounding rows columns denominator (now (cells .entry))) (now (counts .entry))) (now (counts .entry)) r (now (counts .exit)) ⌝ }
@@ -53,3 +56,9 @@ pub fn round(rows: u32, columns: u32, denominator: u32, cells: &[u32], counts: &
         }
     }
 }
+
+// The literal cases are as stated: arrays that are controlled roundings and arrays that are not, and calls, with 7 beside each other refusal.
+pub fn claims()
+    ensures candidates { λ _. ⌜ map roundsTable candidates ≡ map (λ x. x .rounds) candidates ⌝ }
+    ensures calls { λ _. ⌜ map rounded roundCases ≡ map said roundCases ⌝ }
+{}

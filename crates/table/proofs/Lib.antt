@@ -7,3 +7,4 @@ pub mod RoundTests
 pub mod Tables
 pub mod Sizes
 pub mod Divisions
+pub mod Examples

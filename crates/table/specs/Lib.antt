@@ -3,3 +3,4 @@ pub mod Whole
 pub mod Check
 pub mod Shape
 pub mod Divide
+pub mod Examples

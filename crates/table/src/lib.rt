@@ -1,6 +1,8 @@
 // Tables of expected counts: their bounds, their refusals and their entries.
 ghost use mathlib.Core.Path.{_≡_};
-ghost use Rattle.table.specs.Table.{maxRows, maxColumns, maxArrays, maxDenominator, maxExpected, maxCells};
+ghost use mathlib.Core.List.{[], _∷_, map};
+ghost use Rattle.table.specs.Table.{maxRows, maxColumns, maxArrays, maxDenominator, maxExpected, maxCells, entries};
+ghost use Rattle.table.specs.Examples.{cases, checked, rounded, roundedOf};
 
 pub mod check;
 pub mod sums;
@@ -45,4 +47,11 @@ pub fn bounds()
     ensures denominator { λ _. do ⌜ (← ⟦Table::MAX_DENOMINATOR⟧ .entry) ≡ maxDenominator ⌝ }
     ensures expected { λ _. do ⌜ (← ⟦Table::MAX_EXPECTED⟧ .entry) ≡ maxExpected ⌝ }
     ensures cells { λ _. do ⌜ (← ⟦Table::MAX_CELLS⟧ .entry) ≡ maxCells ⌝ }
+{}
+
+// The literal cases are as stated: refusals 1 to 4 and each two of them at once, the order of the entries, and the rounding of one entry.
+pub fn claims()
+    ensures checks { λ _. ⌜ map checked cases ≡ map (λ x. x .number) cases ⌝ }
+    ensures entries { λ _. ⌜ entries 2 3 (1 ∷ 2 ∷ 3 ∷ 40 ∷ 50 ∷ 60 ∷ []) ≡ 1 ∷ 2 ∷ 3 ∷ 40 ∷ 50 ∷ 60 ∷ 6 ∷ 150 ∷ 41 ∷ 52 ∷ 63 ∷ 156 ∷ [] ⌝ }
+    ensures rounded { λ _. ⌜ map (λ x. roundedOf (x .entry)) rounded ≡ rounded ⌝ }
 {}

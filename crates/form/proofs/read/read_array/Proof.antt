@@ -1,4 +1,6 @@
-use Rattle.form.proofs.Readings.{array-next, array-entry, array-long, array-fits, array-begins, array-body, array-read}
+use native.Mathlib.Omega.{arith}
+use Rattle.table.proofs.Totals.{small-product}
+use Rattle.form.proofs.Readings.{array-next, array-entry, array-long, array-sizes, array-begins, array-body, array-read}
 use borrow.Author.Needs.{needs}
 use Rattle.form.proofs.read.read_array.Statement.{statement}
 use Rattle.form.proofs.read.read_array.Tie as tie
@@ -21,7 +23,8 @@ part-counts-from-start c = search (needs, array-begins)
 mul-counts-from : tie.Need-mul-counts-from
 mul-counts-from c =
     let sized = c .before .before .before in
-    array-fits (sized .before .before .before .pre) (sized .sizes .ensures)
+    let few = array-sizes (sized .before .before .before .pre) (sized .sizes .ensures) in
+    small-product (omega (arith, few .rows)) (omega (arith, few .columns))
 
 counts-from-requires : tie.Need-counts-from-requires
 counts-from-requires c κs = search (needs, array-body)
