@@ -16,6 +16,7 @@ use Rattle.base.specs.Fill.{Filled}
 use Rattle.base.proofs.Lists.{and-left, and-right, tabulate-ext, tabulate-all}
 use Rattle.base.proofs.Filling.{front-more, front-all}
 use Rattle.base.proofs.Buffers.{written-at, written-length}
+use Rattle.refusals.specs.declared.Answer.{Answer}
 use Rattle.refusals.specs.declared.Answer.the-variants.{Done, Refused}
 use Rattle.refusals.specs.declared.Refusal.{Refusal}
 use Rattle.refusals.specs.declared.Refusal.the-variants.{Buffer, Number, Record, Taken}
@@ -30,10 +31,11 @@ use Rattle.opening.specs.Open.{openTests, openRefusal, Opens, openAnswer, drawn
 use Rattle.form.specs.Parts.{Sized}
 use Rattle.form.proofs.Sizing.{cells-are, denominator-is, sized-denominator}
 use Rattle.opening.proofs.Opening.{is-open, is-refused, opens-layout, opens-by, opens-answer, opened-sized, sizes-product}
-use Rattle.campaign.specs.Record.{CampaignRecord, recordOf, bitOf, bitBytes, roomFor, spareClear, takenSum, fits, startTests, startRefusal, started, campaignRefusal, taking}
+use Rattle.campaign.specs.Record.{CampaignRecord, recordOf, bitOf, bitBytes, roomFor, spareClear, takenSum, fits, startTests, startRefusal, cleared, campaignRefusal, taking}
+use Rattle.campaign.specs.Calls.{started, ask, made, Starts, Draws}
 use Rattle.campaign.specs.Parts.{Unset, sizesOr, Addends, Fitted}
 use Rattle.campaign.proofs.Opened.{sound}
-use Rattle.campaign.proofs.Steps.{room-bits, room-tally}
+use Rattle.campaign.proofs.Long.{room-bits, room-tally}
 use Rattle.campaign.proofs.Numbers.{array-length, count-room, tally-room}
 
 -- zeros at the start of a buffer
@@ -42,11 +44,11 @@ unfolding tabulate
 zeros zero = refl
 zeros (suc n) = ap (λ (l : List ℕ). 0 ∷ l) (zeros n)
 
-pub cleared : {old now : List ℕ} {i n : ℕ} → Filled (λ j. 0) 0 old now i → i ≤ n → n ≤ i → n ≤ length old → now ≡ written (replicate n 0) old
-cleared {old} {now} {i} {n} p a b h = front-all p a b h ∙ ap (λ (l : List ℕ). written l old) (zeros n)
+pub zeroed : {old now : List ℕ} {i n : ℕ} → Filled (λ j. 0) 0 old now i → i ≤ n → n ≤ i → n ≤ length old → now ≡ written (replicate n 0) old
+zeroed {old} {now} {i} {n} p a b h = front-all p a b h ∙ ap (λ (l : List ℕ). written l old) (zeros n)
 
-pub cleared-more : {old now : List ℕ} {i n : ℕ} → Filled (λ j. 0) 0 old now i → i < n → n ≤ length old → Filled (λ j. 0) 0 old (set now i 0) (i + 1)
-cleared-more p h m = front-more p 0 refl h m
+pub zeroed-more : {old now : List ℕ} {i n : ℕ} → Filled (λ j. 0) 0 old now i → i < n → n ≤ length old → Filled (λ j. 0) 0 old (set now i 0) (i + 1)
+zeroed-more p h m = front-more p 0 refl h m
 
 -- counts added to the numbers of a buffer
 abbrev pub sumAt : List ℕ → List ℕ → ℕ → ℕ
@@ -165,14 +167,18 @@ module _ (b bits tally : List ℕ) {o : Opened} (is : o ≡ sizesOr b (startRefu
     start-refused e = told-refused b _ (sym is ∙ e)
 
     -- what a start leaves
-    pub start-keeps : {x : Refusal} → o ≡ opened.Refused x → Answers (startRefusal b given) (started (decode b) given) given (Refused x) given
-    start-keeps e = refused-so (start-refused e)
+    start-as : {r : Answer} {s : CampaignRecord} → Answers (startRefusal b given) (cleared (decode b) given) given r s → Starts (λ a. a) (started b given) r s
+    unfolding started
+    start-as a = record { answer = a .answer; left = a .left }
+
+    pub start-keeps : {x : Refusal} → o ≡ opened.Refused x → Starts (λ a. a) (started b given) (Refused x) given
+    start-keeps e = start-as (refused-so (start-refused e))
 
     pub start-leaves : {t : Sizes} → o ≡ opened.Plan t → {bits′ tally′ : List ℕ} → bits′ ≡ written (replicate (bitBytes (t .denominator)) 0) bits
         → tally′ ≡ written (replicate (t .rows * t .columns) 0) tally
-        → Answers (startRefusal b given) (started (decode b) given) given Done (recordOf 0 bits′ tally′)
-    unfolding started decode
-    start-leaves e p q = accepted-so (start-none e n) (rw (p, q, start-sizes e))
+        → Starts (λ a. a) (started b given) Done (recordOf 0 bits′ tally′)
+    unfolding cleared decode
+    start-leaves e p q = start-as (accepted-so (start-none e n) (rw (p, q, start-sizes e)))
 
     -- the ways of a campaign draw to its answer
     module _ (d room : ℕ) where
@@ -230,11 +236,15 @@ module _ (p : Plan) (s : CampaignRecord) (f : fits p s ≡ true) where
 
 -- a campaign draw, by what is due of it
 module _ (b : List ℕ) (s : CampaignRecord) (d room : ℕ) {o : Opened} (is : o ≡ sizesOr b (campaignRefusal b d s room)) where
-  pub draw-keeps : (counts : List ℕ) {x : Refusal} → o ≡ opened.Refused x
-      → Answers (campaignRefusal b d s room) (taking (decode b) d s) s (Refused x) s
-      × (counts ≡ after (campaignRefusal b d s room) (written (drawnArray b d) counts) counts)
+  draw-as : (counts : List ℕ) {counts′ : List ℕ} {r : Answer} {s′ : CampaignRecord} → length counts ≡ room → Answers (campaignRefusal b d s room) (taking (decode b) d s) s r s′
+      → counts′ ≡ after (campaignRefusal b d s room) (written (drawnArray b d) counts) counts → Draws (λ a. a) (made b s (ask d counts)) r s′ counts′
+  unfolding made
+  draw-as counts m a e = rw m (record { answer = a .answer; left = a .left; result = e })
+
+  pub draw-keeps : (counts : List ℕ) → length counts ≡ room → {x : Refusal} → o ≡ opened.Refused x
+      → Draws (λ a. a) (made b s (ask d counts)) (Refused x) s counts
   unfolding after
-  draw-keeps counts e = let k = told-refused b _ (sym is ∙ e) in (refused-so k, rw k)
+  draw-keeps counts m e = let k = told-refused b _ (sym is ∙ e) in draw-as counts m (refused-so k) (rw k)
 
   -- what an accepted draw has passed
   module _ {t : Sizes} (e : o ≡ opened.Plan t) where
@@ -294,15 +304,15 @@ module _ (b : List ℕ) (s : CampaignRecord) (d room : ℕ) {o : Opened} (is : o
     pub count-small : s .taken + 1 ≤ 65535
     count-small = omega (arith, fit-count (decode b) s fit, count-room (s .bits) below new, few)
 
-    module _ (counts : List ℕ) {counts′ : List ℕ} (w : counts′ ≡ written (drawnArray b d) counts) where
+    module _ (counts : List ℕ) {counts′ : List ℕ} (m : length counts ≡ room) (w : counts′ ≡ written (drawnArray b d) counts) where
       array-long : length (drawnArray b d) ≡ t .rows * t .columns
       array-long = array-length (sound b opens) below ∙ sym cells
 
       count-at : (i : ℕ) → i < t .rows * t .columns → getD counts′ i 0 ≡ getD (drawnArray b d) i 0
       count-at i l = rw w (written-at (drawnArray b d) counts array-long i l)
 
-      pub addable : length counts ≡ room → Addends (t .rows * t .columns) counts′ (s .tally)
-      addable m = record {
+      pub addable : Addends (t .rows * t .columns) counts′ (s .tally)
+      addable = record {
         counts-room = omega (arith, ap length w ∙ written-length (drawnArray b d) counts array-long (omega (arith, long)), long);
         tally-room = fitted .tally-room;
         small = λ i l.
@@ -320,7 +330,6 @@ module _ (b : List ℕ) (s : CampaignRecord) (d room : ℕ) {o : Opened} (is : o
       -- what it leaves
       pub draw-leaves : {bits′ tally′ : List ℕ} → tally′ ≡ written (tabulate (t .rows * t .columns) (sumAt counts′ (s .tally))) (s .tally)
           → bits′ ≡ set (s .bits) (d / 8) (getD (s .bits) (d / 8) 0 + 2 ^ (d % 8))
-          → Answers (campaignRefusal b d s room) (taking (decode b) d s) s Done (recordOf (s .taken + 1) bits′ tally′)
-          × (counts′ ≡ after (campaignRefusal b d s room) (written (drawnArray b d) counts) counts)
+          → Draws (λ a. a) (made b s (ask d counts)) Done (recordOf (s .taken + 1) bits′ tally′) counts′
       unfolding taking after
-      draw-leaves p q = (accepted-so none-due (rw (q, tally-is p)), rw none-due w)
+      draw-leaves p q = draw-as counts m (accepted-so none-due (rw (q, tally-is p))) (rw none-due w)

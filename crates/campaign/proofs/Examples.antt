@@ -1,12 +1,21 @@
--- The examples hold, by computing both sides. Assumes nothing.
+-- The tables of specs/Examples.antt hold, by computation. Assumes nothing.
 use mathlib.Core.Path.{_≡_, refl}
 use mathlib.Core.List.{map}
-use Rattle.campaign.specs.Examples.{stored, outcomeOf, calls, saidOf, runs}
+use Rattle.base.specs.Lists.{tabulate, sum, sumTo, all}
+use Rattle.table.specs.Table.{lines, total}
+use Rattle.table.specs.Whole.{whole, roundsTo}
+use Rattle.refusals.specs.Due.{due, answerOf, after}
+use Rattle.form.specs.Plan.{arrayFor}
+use Rattle.form.specs.Form.{number, decode, headRight, laidOut}
+use Rattle.opening.specs.Open.{consistent}
+use Rattle.campaign.specs.Record.{bitOf, fits, startRefusal, cleared, campaignRefusal, taking}
+use Rattle.campaign.specs.Calls.{started, made}
+use Rattle.campaign.specs.Examples.{outcomeOf, starts, draws}
 
-pub calls-as-said : map (λ r. outcomeOf (r .plan) (r .given) (r .call)) calls ≡ map (λ r. r .outcome) calls
-unfolding stored outcomeOf
-calls-as-said = refl
+pub starts-hold : map (λ r. outcomeOf (r .plan) (r .given) (r .call)) starts ≡ map (λ r. r .outcome) starts
+unfolding started startRefusal cleared due answerOf after number decode headRight laidOut consistent tabulate sum all lines total whole roundsTo
+starts-hold = refl
 
-pub runs-as-said : map (λ r. saidOf (r .plan) (r .list)) runs ≡ map (λ r. r .said) runs
-unfolding stored saidOf
-runs-as-said = refl
+pub draws-hold : map (λ r. outcomeOf (r .plan) (r .given) (r .call)) draws ≡ map (λ r. r .outcome) draws
+unfolding made campaignRefusal taking fits bitOf sumTo arrayFor due answerOf after number decode headRight laidOut consistent tabulate sum all lines total whole roundsTo
+draws-hold = refl

@@ -1,9 +1,7 @@
 pub mod Bits
+pub mod Long
 pub mod Opened
 pub mod Numbers
-pub mod Steps
-pub mod Runs
-pub mod Campaigns
 pub mod Examples
 pub mod Fitting
 pub mod Calling

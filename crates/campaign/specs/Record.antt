@@ -1,4 +1,4 @@
--- The campaign record, a start and a campaign draw (01, "Campaign record" and "Turned back"). Assumes nothing.
+-- The campaign record, and when a start and a campaign draw are refused (01, "Campaign record" and "Turned back"). Assumes nothing.
 use mathlib.Core.Bool.{Bool, not, _&&_}
 use mathlib.Core.List.{List, [], _∷_, _++_}
 use mathlib.Core.Option.{Option}
@@ -59,8 +59,8 @@ unfoldable pub startRefusal : List ℕ → CampaignRecord → Option Refusal
 startRefusal b s = due (startTests b s)
 
 -- "A start sets all of it to zero." "Bytes and numbers beyond those needed are never touched."
-unfoldable pub started : Plan → CampaignRecord → CampaignRecord
-started p s = record {
+unfoldable pub cleared : Plan → CampaignRecord → CampaignRecord
+cleared p s = record {
   taken = 0;
   bits = written (replicate (bitBytes (p .denominator)) 0) (s .bits);
   tally = written (replicate (cellCount p) 0) (s .tally);

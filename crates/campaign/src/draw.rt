@@ -1,13 +1,11 @@
 // Drawing in a campaign.
 ghost use mathlib.Core.Path.{_≡_};
 ghost use Prim.Native.Nat.{_+_};
-ghost use lib.ListN.{length, getD};
+ghost use lib.ListN.{getD};
 ghost use Rattle.base.specs.Lists.{tabulate};
-ghost use Rattle.refusals.specs.Due.{after, Answers};
 ghost use Rattle.base.specs.Buffers.{written};
-ghost use Rattle.form.specs.Form.{decode};
-ghost use Rattle.opening.specs.Open.{drawnArray};
-ghost use Rattle.campaign.specs.Record.{recordOf, campaignRefusal, taking};
+ghost use Rattle.campaign.specs.Record.{recordOf, campaignRefusal};
+ghost use Rattle.campaign.specs.Calls.{ask, made, Draws};
 ghost use Rattle.campaign.specs.Parts.{sizesOr, Addends};
 use crate::Step;
 use crate::bitset::bit;
@@ -75,13 +73,9 @@ pub fn draw(
     tally: &mut [u32],
     counts: &mut [u16],
 ) -> Step
-    ensures record_left { λ r. ⌜ Answers
-        (campaignRefusal (now (plan .entry)) number (recordOf taken (now (bits .entry)) (now (tally .entry))) (length (now (counts .entry))))
-        (taking (decode (now (plan .entry))) number (recordOf taken (now (bits .entry)) (now (tally .entry))))
-        (recordOf taken (now (bits .entry)) (now (tally .entry))) (r .answer) (recordOf (r .taken) (now (bits .exit)) (now (tally .exit))) ⌝ }
-    ensures array { λ _. ⌜ now (counts .exit)
-        ≡ after (campaignRefusal (now (plan .entry)) number (recordOf taken (now (bits .entry)) (now (tally .entry))) (length (now (counts .entry))))
-        (written (drawnArray (now (plan .entry)) number) (now (counts .entry))) (now (counts .entry)) ⌝ }
+    ensures { λ r. ⌜ Draws (λ a. a)
+        (made (now (plan .entry)) (recordOf taken (now (bits .entry)) (now (tally .entry))) (ask number (now (counts .entry))))
+        (r .answer) (recordOf (r .taken) (now (bits .exit)) (now (tally .exit))) (now (counts .exit)) ⌝ }
 {
     let opened = draw_opened(plan, number, taken, bits, tally, counts.len());
     match opened {

@@ -1,8 +1,7 @@
-// Campaigns: a start, draws of numbers that are not yet taken, and what every run of them is held to.
+// Campaigns: a start, and draws of numbers that are not yet taken. What every run of them is held to stands in `demands`.
 ghost use mathlib.Core.Path.{_≡_};
 ghost use mathlib.Core.List.{map};
-ghost use Rattle.campaign.specs.Claim.{Claim};
-ghost use Rattle.campaign.specs.Examples.{calls, outcomeOf, runs, saidOf};
+ghost use Rattle.campaign.specs.Examples.{outcomeOf, starts, draws};
 
 mod bitset;
 pub mod draw;
@@ -18,9 +17,9 @@ pub struct Step {
     pub taken: u32,
 }
 
-// For any bytes that open, any record long enough and any list of draws (01, "What demand 3 speaks of"); and the examples are as stated.
+// The literal cases are as stated: records of D 7, 8 and 9, buffers of just the needed length and of one less, each refusal, and each two that can apply
+// at once.
 pub fn claims()
-    ensures every_run { λ _. ⌜ Claim ⌝ }
-    ensures calls { λ _. ⌜ map (λ r. outcomeOf (r .plan) (r .given) (r .call)) calls ≡ map (λ r. r .outcome) calls ⌝ }
-    ensures runs { λ _. ⌜ map (λ r. saidOf (r .plan) (r .list)) runs ≡ map (λ r. r .said) runs ⌝ }
+    ensures starts { λ _. ⌜ map (λ r. outcomeOf (r .plan) (r .given) (r .call)) starts ≡ map (λ r. r .outcome) starts ⌝ }
+    ensures draws { λ _. ⌜ map (λ r. outcomeOf (r .plan) (r .given) (r .call)) draws ≡ map (λ r. r .outcome) draws ⌝ }
 {}

@@ -2,10 +2,9 @@
 ghost use mathlib.Core.Path.{_≡_};
 ghost use Prim.Native.Nat.{_≤_};
 ghost use lib.ListN.{length, replicate};
-ghost use Rattle.refusals.specs.Due.{Answers};
 ghost use Rattle.base.specs.Buffers.{written};
-ghost use Rattle.form.specs.Form.{decode};
-ghost use Rattle.campaign.specs.Record.{recordOf, startRefusal, started};
+ghost use Rattle.campaign.specs.Record.{recordOf};
+ghost use Rattle.campaign.specs.Calls.{started, Starts};
 use crate::Step;
 use crate::room::open_for;
 use opening::Opened;
@@ -33,9 +32,8 @@ fn clear_numbers(numbers: &mut [u32], count: usize)
 
 // Clears the record, whose count is passed and returned by value, or returns the lowest refusal that applies.
 pub fn start(plan: &[u8], taken: u32, bits: &mut [u8], tally: &mut [u32]) -> Step
-    ensures { λ r. ⌜ Answers (startRefusal (now (plan .entry)) (recordOf taken (now (bits .entry)) (now (tally .entry))))
-        (started (decode (now (plan .entry))) (recordOf taken (now (bits .entry)) (now (tally .entry))))
-        (recordOf taken (now (bits .entry)) (now (tally .entry))) (r .answer) (recordOf (r .taken) (now (bits .exit)) (now (tally .exit))) ⌝ }
+    ensures { λ r. ⌜ Starts (λ a. a) (started (now (plan .entry)) (recordOf taken (now (bits .entry)) (now (tally .entry))))
+        (r .answer) (recordOf (r .taken) (now (bits .exit)) (now (tally .exit))) ⌝ }
 {
     let opened = open_for(plan, bits, tally);
     match opened {

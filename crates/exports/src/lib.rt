@@ -7,9 +7,9 @@ ghost use Rattle.base.specs.Buffers.{written};
 ghost use Rattle.rounding.specs.Rounding.{firstRounding};
 ghost use Rattle.rounding.specs.Call.{roundRefusal};
 ghost use Rattle.plan.specs.Call.{planBytes, planRefusal, planAnswer, plannedNumber, Apart};
-ghost use Rattle.form.specs.Form.{decode};
 ghost use Rattle.opening.specs.Open.{openAnswer, openedNumber, drawRefusal, drawnArray};
-ghost use Rattle.campaign.specs.Record.{recordOf, startRefusal, started, campaignRefusal, taking};
+ghost use Rattle.campaign.specs.Record.{recordOf};
+ghost use Rattle.campaign.specs.Calls.{started, ask, made, Starts, Draws};
 
 // The part of a campaign record that is no buffer: the count of numbers taken.
 #[repr(C)]
@@ -80,12 +80,9 @@ pub extern "C" fn lufodimi_start(
     bits: &mut [u8],
     tally: &mut [u32],
 ) -> u32
-    ensures number { λ n. ⌜ n ≡ answerNumber (answerOf
-        (startRefusal (now (plan .entry)) (recordOf (now («record» .entry) .taken) (now (bits .entry)) (now (tally .entry))))) ⌝ }
-    ensures left { λ _. ⌜ recordOf (now («record» .exit) .taken) (now (bits .exit)) (now (tally .exit))
-        ≡ after (startRefusal (now (plan .entry)) (recordOf (now («record» .entry) .taken) (now (bits .entry)) (now (tally .entry))))
-        (started (decode (now (plan .entry))) (recordOf (now («record» .entry) .taken) (now (bits .entry)) (now (tally .entry))))
-        (recordOf (now («record» .entry) .taken) (now (bits .entry)) (now (tally .entry))) ⌝ }
+    ensures { λ n. ⌜ Starts answerNumber
+        (started (now (plan .entry)) (recordOf (now («record» .entry) .taken) (now (bits .entry)) (now (tally .entry))))
+        n (recordOf (now («record» .exit) .taken) (now (bits .exit)) (now (tally .exit))) ⌝ }
 {
     let started = campaign::start::start(plan, record.taken, bits, tally);
     record.taken = started.taken;
@@ -102,15 +99,9 @@ pub extern "C" fn lufodimi_campaign_draw(
     tally: &mut [u32],
     counts: &mut [u16],
 ) -> u32
-    ensures number { λ n. ⌜ n ≡ answerNumber (answerOf (campaignRefusal (now (plan .entry)) number
-        (recordOf (now («record» .entry) .taken) (now (bits .entry)) (now (tally .entry))) (length (now (counts .entry))))) ⌝ }
-    ensures left { λ _. ⌜ recordOf (now («record» .exit) .taken) (now (bits .exit)) (now (tally .exit))
-        ≡ after (campaignRefusal (now (plan .entry)) number (recordOf (now («record» .entry) .taken) (now (bits .entry)) (now (tally .entry))) (length (now (counts .entry))))
-        (taking (decode (now (plan .entry))) number (recordOf (now («record» .entry) .taken) (now (bits .entry)) (now (tally .entry))))
-        (recordOf (now («record» .entry) .taken) (now (bits .entry)) (now (tally .entry))) ⌝ }
-    ensures array { λ _. ⌜ now (counts .exit)
-        ≡ after (campaignRefusal (now (plan .entry)) number (recordOf (now («record» .entry) .taken) (now (bits .entry)) (now (tally .entry))) (length (now (counts .entry))))
-        (written (drawnArray (now (plan .entry)) number) (now (counts .entry))) (now (counts .entry)) ⌝ }
+    ensures { λ n. ⌜ Draws answerNumber
+        (made (now (plan .entry)) (recordOf (now («record» .entry) .taken) (now (bits .entry)) (now (tally .entry))) (ask number (now (counts .entry))))
+        n (recordOf (now («record» .exit) .taken) (now (bits .exit)) (now (tally .exit))) (now (counts .exit)) ⌝ }
 {
     let drawn = campaign::draw::draw(plan, number, record.taken, bits, tally, counts);
     record.taken = drawn.taken;

@@ -48,7 +48,7 @@ gathered-start {r} {c} {d} {g} e weights counts t a b is = record {
 }
 
 -- how many entries there are
-entries-length : (r c : ℕ) → length (entryPlaces r c) ≡ r * c + (r + c) + 1
+pub entries-length : (r c : ℕ) → length (entryPlaces r c) ≡ r * c + (r + c) + 1
 unfolding entryPlaces lines
 entries-length r c =
     length-append (lines r c) _

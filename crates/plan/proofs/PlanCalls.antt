@@ -6,6 +6,8 @@ use Prim.Native.Nat.{ℕ, _≤_, _<_}
 use native.Mathlib.Nat.{mul-le-mul}
 use native.Mathlib.Omega.{arith}
 use lib.ListN.{length}
+use mir.Val.{Fits}
+use mir.Syntax.{w32}
 use Rattle.base.specs.Buffers.{written}
 use Rattle.refusals.specs.Numbers.{numberOf}
 use Rattle.refusals.specs.declared.Refusal.{Refusal}
@@ -22,10 +24,11 @@ use Rattle.table.proofs.Tables.{table-accepted, taken, not-taken, refused-table
 use Rattle.form.specs.Plan.{Plan}
 use Rattle.form.specs.Form.{planLength, encode}
 use Rattle.form.specs.Parts.{Bounded}
+use Rattle.form.proofs.Layouts.{plan-most}
 use Rattle.writing.specs.Write.{bufferedPlan, Writable}
 use Rattle.plan.specs.declared.Planned.{Planned}
 use Rattle.plan.specs.declared.Planned.the-variants.{Length, Refused}
-use Rattle.plan.specs.Call.{planBytes, planRefusal, planAnswer, plannedNumber, Apart}
+use Rattle.plan.specs.Call.{planBytes, planRefusal, planAnswer, Apart}
 use Rattle.plan.specs.Grids.{AllGathered}
 use Rattle.plan.specs.Promises.{Promises, PlanAnswers}
 use Rattle.plan.proofs.Planning.{sizes, plan-held, bytes-length, promises}
@@ -52,6 +55,9 @@ module _ {r c d : ℕ} {g : List ℕ} {k : ℕ} {weights counts : List ℕ} (a :
   module _ {n : ℕ} (e : n ≡ planLength r c k) where
     n-is : n ≡ length (planBytes r c d g)
     n-is = e ∙ sym (bytes-length a)
+
+    pub length-fits : Fits w32 n
+    length-fits = record { fits = omega (arith, e, plan-most length-ready) }
 
     pub too-short : {old : List ℕ} → length old < n → PlanAnswers r c d g old (Refused Buffer) old
     unfolding planRefusal
@@ -97,7 +103,7 @@ first-none l m h = go (due l) refl
     go none q = q
     go (some x) q = absurd (let y = due-first l m x q in let z : _≡_ {A = ℕ} 0 1 = cc in omega arith)
 
--- a refusal's number is below any length, and every answer's number is at most 50,912
+-- a refusal's number is below any length
 refusal-small : (x : Refusal) → numberOf x < 30
 refusal-small Size = omega arith
 refusal-small Denominator = omega arith
@@ -110,18 +116,10 @@ refusal-small Number = omega arith
 refusal-small Record = omega arith
 refusal-small Taken = omega arith
 
-module _ {r c d : ℕ} {g old new : List ℕ} {p : Planned} (f : PlanAnswers r c d g old p new) where
-  -- what holds of the answer, if it holds of every refusal and of the length of an accepted table's plan
-  by-cases : (P : Planned → Type 0) → ((x : Refusal) → P (Refused x)) → (Promises r c d g → P (Length (length (planBytes r c d g)))) → P p
-  unfolding planAnswer planRefusal tableRefusal
-  by-cases P refusals length-of = rw (f .answer) (go (planRefusal r c d g (length old)) refl)
-    where
-      go : (o : Option Refusal) → planRefusal r c d g (length old) ≡ o → P (refusedOr Refused (Length (length (planBytes r c d g))) o)
-      go (some x) q = refusals x
-      go none q = length-of (f .promises (first-none (tableTests r c d g) _ q))
-
-  pub number-apart : Apart p
-  number-apart = by-cases Apart refusal-small (λ h. h .len-low)
-
-  pub number-small : plannedNumber p ≤ 50912
-  number-small = by-cases (λ q. plannedNumber q ≤ 50912) (λ x. omega (arith, refusal-small x)) (λ h. h .len-high)
+pub number-apart : {r c d : ℕ} {g old new : List ℕ} {p : Planned} → PlanAnswers r c d g old p new → Apart p
+unfolding planAnswer planRefusal tableRefusal
+number-apart {r} {c} {d} {g} {old} f = rw (f .answer) (go (planRefusal r c d g (length old)) refl)
+  where
+    go : (o : Option Refusal) → planRefusal r c d g (length old) ≡ o → Apart (refusedOr Refused (Length (length (planBytes r c d g))) o)
+    go (some x) q = refusal-small x
+    go none q = f .promises (first-none (tableTests r c d g) _ q) .len-low

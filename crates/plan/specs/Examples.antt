@@ -1,128 +1,76 @@
--- The examples of 01 that carry proof, and the slips that it lists, as tables. Assumes nothing.
-use mathlib.Core.Bool.{Bool, true, false}
-use mathlib.Core.List.{List, [], _∷_, map}
-use Prim.Native.Nat.{ℕ, _*_}
-use lib.ListN.{replicate}
-use Rattle.base.specs.Lists.{tabulate, least}
-use Rattle.table.specs.Table.{total, cellPlaces}
-use Rattle.table.specs.Check.{checkedNumber, checkOf}
-use Rattle.rounding.specs.Rounding.{isRounding}
-use Rattle.form.specs.Plan.{Plan}
-use Rattle.form.specs.Form.{encode}
-use Rattle.opening.specs.Open.{openAnswer, openedNumber}
-use Rattle.plan.specs.Rounds.{limitOf, weightOf, planOf}
+-- Literal cases of limits and of the call "plan" (01, "The plan", "Stored plan, form 1" and "Turned back"); its bytes are typed out. Assumes nothing.
+use mathlib.Core.List.{List, [], _∷_, _++_}
+use Prim.Native.Nat.{ℕ}
+use lib.ListN.{length, replicate}
+use Rattle.base.specs.Buffers.{written}
+use Rattle.refusals.specs.Due.{after}
+use Rattle.form.specs.Examples.{wide}
+use Rattle.plan.specs.Rounds.{limitOf}
+use Rattle.plan.specs.Call.{planBytes, planRefusal, planAnswer, plannedNumber}
 
--- a table and its plan: for each array the weight, then the counts
-pub record Example : Type 0 where
-  pub rows : ℕ
-  pub columns : ℕ
-  pub denominator : ℕ
-  pub cells : List ℕ
-  pub listing : List (List ℕ)
+-- an entry over w with its count, and its limit
+pub record Limit : Type 0 where
+  pub weight : ℕ
+  pub entry : ℕ
+  pub count : ℕ
+  pub limit : ℕ
 
-abbrev pub examples : List Example
-examples =
-    record {
-      rows = 2;
-      columns = 2;
-      denominator = 10;
-      cells = 3 ∷ 4 ∷ 5 ∷ 6 ∷ [];
-      listing = (2 ∷ 0 ∷ 0 ∷ 0 ∷ 1 ∷ []) ∷ (1 ∷ 0 ∷ 0 ∷ 1 ∷ 1 ∷ []) ∷ (4 ∷ 0 ∷ 1 ∷ 1 ∷ 0 ∷ []) ∷ (3 ∷ 1 ∷ 0 ∷ 0 ∷ 1 ∷ []) ∷ [];
-    }
-    ∷ record { rows = 1; columns = 1; denominator = 3; cells = 2 ∷ []; listing = (1 ∷ 0 ∷ []) ∷ (2 ∷ 1 ∷ []) ∷ [] }
-    ∷ record {
-      rows = 2;
-      columns = 2;
-      denominator = 2;
-      cells = 1 ∷ 1 ∷ 1 ∷ 1 ∷ [];
-      listing = (1 ∷ 0 ∷ 1 ∷ 1 ∷ 0 ∷ []) ∷ (1 ∷ 1 ∷ 0 ∷ 0 ∷ 1 ∷ []) ∷ [];
-    }
-    ∷ record { rows = 1; columns = 2; denominator = 4; cells = 4 ∷ 6 ∷ []; listing = (2 ∷ 1 ∷ 1 ∷ []) ∷ (2 ∷ 1 ∷ 2 ∷ []) ∷ [] }
+abbrev pub limitIs : ℕ → ℕ → ℕ → ℕ → Limit
+limitIs w e n l = record { weight = w; entry = e; count = n; limit = l }
+
+abbrev pub limited : Limit → ℕ
+limited x = limitOf (x .weight) (x .entry) (x .count)
+
+abbrev pub limits : List Limit
+limits =
+    -- rounded down, rounded up, whole
+    limitIs 10 3 0 7
+    ∷ limitIs 10 3 1 3
+    ∷ limitIs 10 23 2 7
+    ∷ limitIs 10 23 3 3
+    ∷ limitIs 10 20 2 10
+    ∷ limitIs 10 0 0 10
     ∷ []
 
-abbrev pub listingOf : Plan → List (List ℕ)
-listingOf p = map (λ a. a .weight ∷ a .counts) (p .arrays)
-
-abbrev pub planned : Example → List (List ℕ)
-planned x = listingOf (planOf (x .rows) (x .columns) (x .denominator) (x .cells))
-
--- a table and the number that its check gives, 0 for an accepted one
-pub record Bound : Type 0 where
+-- a call: a table and a buffer; the number that it returns, and the buffer as it leaves it
+pub record Call : Type 0 where
   pub rows : ℕ
   pub columns : ℕ
   pub denominator : ℕ
   pub cells : List ℕ
+  pub buffer : List ℕ
   pub number : ℕ
+  pub result : List ℕ
 
-abbrev pub bounds : List Bound
-bounds =
-    record { rows = 1; columns = 1; denominator = 65535; cells = 0 ∷ []; number = 0 }
-    ∷ record { rows = 1; columns = 1; denominator = 0; cells = 0 ∷ []; number = 2 }
-    ∷ record { rows = 1; columns = 1; denominator = 65536; cells = 0 ∷ []; number = 2 }
-    ∷ record { rows = 12; columns = 1; denominator = 1; cells = replicate 12 0; number = 0 }
-    ∷ record { rows = 0; columns = 1; denominator = 1; cells = []; number = 1 }
-    ∷ record { rows = 13; columns = 1; denominator = 1; cells = replicate 13 0; number = 1 }
-    ∷ record { rows = 1; columns = 12; denominator = 1; cells = replicate 12 0; number = 0 }
-    ∷ record { rows = 1; columns = 0; denominator = 1; cells = []; number = 1 }
-    ∷ record { rows = 1; columns = 13; denominator = 1; cells = replicate 13 0; number = 1 }
-    ∷ record { rows = 1; columns = 1; denominator = 65535; cells = 65535000 ∷ []; number = 0 }
-    ∷ record { rows = 1; columns = 1; denominator = 65535; cells = 65535001 ∷ []; number = 4 }
-    ∷ record { rows = 1; columns = 2; denominator = 7; cells = 7000 ∷ 7001 ∷ []; number = 4 }
-    ∷ record { rows = 2; columns = 2; denominator = 1; cells = 0 ∷ 0 ∷ 0 ∷ []; number = 3 }
-    ∷ record { rows = 2; columns = 2; denominator = 1; cells = replicate 5 0; number = 3 }
-    -- more than one applies: the lowest
-    ∷ record { rows = 0; columns = 13; denominator = 0; cells = 1 ∷ []; number = 1 }
-    ∷ record { rows = 1; columns = 1; denominator = 0; cells = []; number = 2 }
-    ∷ record { rows = 1; columns = 1; denominator = 1; cells = 1001 ∷ 0 ∷ []; number = 3 }
-    ∷ []
+abbrev pub planned : Call → List ℕ
+planned x =
+    let room = length (x .buffer) in
+    let o = planRefusal (x .rows) (x .columns) (x .denominator) (x .cells) room in
+    plannedNumber (planAnswer (x .rows) (x .columns) (x .denominator) (x .cells) room)
+    ∷ after o (written (planBytes (x .rows) (x .columns) (x .denominator) (x .cells)) (x .buffer)) (x .buffer)
 
-abbrev pub checked : Bound → ℕ
-checked x = checkedNumber (checkOf (x .rows) (x .columns) (x .denominator) (x .cells))
+abbrev pub said : Call → List ℕ
+said x = x .number ∷ x .result
 
--- "draws 0 and 1 belong to array 1, 2 to array 2, 3 to 6 to array 3, 7 to 9 to array 4" of the first example
-abbrev pub drawsOfFirst : List (List ℕ)
-drawsOfFirst =
-    let one : List ℕ = 0 ∷ 0 ∷ 0 ∷ 1 ∷ [] in
-    let three : List ℕ = 0 ∷ 1 ∷ 1 ∷ 0 ∷ [] in
-    let four : List ℕ = 1 ∷ 0 ∷ 0 ∷ 1 ∷ [] in
-    one ∷ one ∷ (0 ∷ 0 ∷ 1 ∷ 1 ∷ []) ∷ three ∷ three ∷ three ∷ three ∷ four ∷ four ∷ four ∷ []
+abbrev pub plans : ℕ → ℕ → ℕ → List ℕ → List ℕ → ℕ → List ℕ → Call
+plans r c d g buffer n result = record { rows = r; columns = c; denominator = d; cells = g; buffer = buffer; number = n; result = result }
 
--- the slips: what the definition gives, and what the wrong way gives, for one case of each
-pub record Slip : Type 0 where
-  pub computed : ℕ
-  pub right : ℕ
-  pub wrong : ℕ
+abbrev pub refuses : ℕ → ℕ → ℕ → List ℕ → List ℕ → ℕ → Call
+refuses r c d g buffer n = plans r c d g buffer n buffer
 
--- "Limits taken over cells only: a total then drifts past its bound."
-abbrev pub weightOverCells : ℕ → ℕ → ℕ → List ℕ → List ℕ → ℕ
-weightOverCells r c w g n = least (map (λ s. limitOf w (total g s) (total n s)) (tabulate (r * c) cellPlaces))
+-- the table whose plan `wide` is
+abbrev pub wideCells : List ℕ
+wideCells = 300400 ∷ 70 ∷ 65936 ∷ 1500 ∷ 260 ∷ 999 ∷ []
 
--- "Giving the weight left over to the last array when rounding gets stuck.": the first example's listing cut after array 2
-abbrev pub leftover : Plan
-leftover = record {
-  rows = 2;
-  columns = 2;
-  denominator = 10;
-  cells = 3 ∷ 4 ∷ 5 ∷ 6 ∷ [];
-  arrays = record { weight = 2; counts = 0 ∷ 0 ∷ 0 ∷ 1 ∷ [] } ∷ record { weight = 8; counts = 0 ∷ 0 ∷ 1 ∷ 1 ∷ [] } ∷ [];
-}
-
-abbrev pub bit : Bool → ℕ
-bit true = 1
-bit false = 0
-
-abbrev pub slips : List Slip
-slips =
-    -- it does not open: 6
-    record { computed = openedNumber (openAnswer (encode leftover)); right = 6; wrong = 0 }
-    -- the first column binds at 2, and no cell below 5
-    ∷ record {
-      computed = weightOf 2 2 10 (3 ∷ 4 ∷ 5 ∷ 6 ∷ []) (0 ∷ 0 ∷ 0 ∷ 1 ∷ []);
-      right = 2;
-      wrong = weightOverCells 2 2 10 (3 ∷ 4 ∷ 5 ∷ 6 ∷ []) (0 ∷ 0 ∷ 0 ∷ 1 ∷ []);
-    }
-    -- "Rounding each cell alone and mending totals afterwards.": four halves, each rounded down, are no controlled rounding
-    ∷ record { computed = bit (isRounding 2 2 2 (1 ∷ 1 ∷ 1 ∷ 1 ∷ []) (0 ∷ 0 ∷ 0 ∷ 0 ∷ [])); right = 0; wrong = 1 }
-    -- "Letting a whole cell vary.": four cells of 4 over 4, as 2 and 0, keep every total and are no controlled rounding
-    ∷ record { computed = bit (isRounding 2 2 4 (4 ∷ 4 ∷ 4 ∷ 4 ∷ []) (2 ∷ 0 ∷ 0 ∷ 2 ∷ [])); right = 0; wrong = 1 }
+abbrev pub calls : List Call
+calls =
+    -- a buffer of just the length; one that is longer, whose rest stays; one byte less: 7
+    plans 2 3 1000 wideCells (replicate 180 9) 180 wide
+    ∷ plans 2 3 1000 wideCells (replicate 183 9) 180 (wide ++ (9 ∷ 9 ∷ 9 ∷ []))
+    ∷ refuses 2 3 1000 wideCells (replicate 179 9) 7
+    -- 7 with each of 1, 2, 3 and 4
+    ∷ refuses 13 1 1 (replicate 13 0) [] 1
+    ∷ refuses 1 1 0 (0 ∷ []) (replicate 29 9) 2
+    ∷ refuses 2 3 1 (replicate 5 0) (replicate 29 9) 3
+    ∷ refuses 1 1 1 (1001 ∷ []) (replicate 29 9) 4
     ∷ []

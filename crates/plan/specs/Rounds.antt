@@ -34,7 +34,7 @@ roundsFrom (suc fuel) r c (suc v) g =
     let x = weightOf r c w g n in
     record { weight = x; counts = n } ∷ roundsFrom fuel r c (w - x) (without x n g)
 
--- A weight is at least 1, so D rounds are enough.
+-- A weight is at least 1, so D rounds are enough: that none is cut off is promised for every accepted table (`Promises`, `weights`: they add up to D).
 unfoldable pub planOf : ℕ → ℕ → ℕ → List ℕ → Plan
 planOf r c d g = record { rows = r; columns = c; denominator = d; cells = g; arrays = roundsFrom d r c d g }
 

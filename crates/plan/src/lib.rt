@@ -1,17 +1,9 @@
 // The plan of a table: Ernst's rounds, and the plan in stored form 1.
 ghost use mathlib.Core.Path.{_≡_};
-ghost use mathlib.Core.Bool.{true, not};
-ghost use mathlib.Core.List.{[], _∷_, map};
-ghost use Prim.Native.Nat.{ℕ, _*_, _≤_};
-ghost use lib.ListN.{replicate};
-ghost use lib.Dec.{eqb};
-ghost use Rattle.base.specs.Lists.{tabulate, all};
+ghost use mathlib.Core.List.{map};
 ghost use Rattle.table.specs.Shape.{IsTable};
-ghost use Rattle.form.specs.Plan.{arrayFor};
-ghost use Rattle.form.specs.Form.{maxLength};
-ghost use Rattle.plan.specs.Rounds.{planOf};
 ghost use Rattle.plan.specs.Call.{plannedNumber};
-ghost use Rattle.plan.specs.Examples.{examples, planned, drawsOfFirst, bounds, checked, slips};
+ghost use Rattle.plan.specs.Examples.{limits, limited, calls, planned, said};
 ghost use Rattle.plan.specs.Promises.{PlanAnswers};
 use crate::rounds::rounds;
 use base::convert::u64_to_u32;
@@ -29,7 +21,7 @@ mod rounds;
 
 // What planning a table answers: the length of the stored plan, or why there is none.
 pub enum Planned {
-    Length(usize),
+    Length(u32),
     Refused(Refusal),
 }
 
@@ -60,7 +52,7 @@ fn plan_table(t: Table, cells: &[u32], plan: &mut [u8]) -> Planned
         denominator: u64_to_u32(t.denominator),
     };
     write(s, cells, &weights, &counts, plan);
-    Planned::Length(length)
+    Planned::Length(length as u32)
 }
 
 // Writes the stored plan of a table and returns its length, or the lowest refusal that applies.
@@ -76,22 +68,16 @@ pub fn plan(rows: u32, columns: u32, denominator: u32, cells: &[u32], plan: &mut
 
 // The number that an answer stands for: the length, which is 30 or more, or the refusal's.
 pub fn planned_number(r: Planned) -> u32
-    requires { ⌜ plannedNumber r ≤ maxLength ⌝ }
     ensures { λ n. ⌜ n ≡ plannedNumber r ⌝ }
 {
     match r {
-        Planned::Length(n) => n as u32,
+        Planned::Length(n) => n,
         Planned::Refused(x) => refusals::number(x),
     }
 }
 
-// The examples of the specification that carry proof, and four of the five slips that it lists; the fifth, a refused draw
-// counted in the tally, is campaign's.
+// The literal cases are as stated: limits, and calls, with 7 beside each other refusal.
 pub fn claims()
-    ensures examples { λ _. ⌜ map planned examples ≡ map (λ x. x .listing) examples ⌝ }
-    ensures draws { λ _. ⌜ tabulate 10 (arrayFor (planOf 2 2 10 (3 ∷ 4 ∷ 5 ∷ 6 ∷ []) .arrays)) ≡ drawsOfFirst ⌝ }
-    ensures zeros { λ _. ⌜ ((r c d : ℕ) → 1 ≤ r → r ≤ 12 → 1 ≤ c → c ≤ 12 → 1 ≤ d
-        → planOf r c d (replicate (r * c) 0) .arrays ≡ record { weight = d; counts = replicate (r * c) 0 } ∷ []) ⌝ }
-    ensures bounds { λ _. ⌜ map checked bounds ≡ map (λ x. x .number) bounds ⌝ }
-    ensures slips { λ _. ⌜ (map (λ x. x .computed) slips ≡ map (λ x. x .right) slips) × (all (λ x. not (eqb (x .right) (x .wrong))) slips ≡ true) ⌝ }
+    ensures limits { λ _. ⌜ map limited limits ≡ map (λ x. x .limit) limits ⌝ }
+    ensures calls { λ _. ⌜ map planned calls ≡ map said calls ⌝ }
 {}

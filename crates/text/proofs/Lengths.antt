@@ -1,4 +1,4 @@
--- How long the listing of a laid-out plan is at most. Assumes nothing.
+-- How long the listing of a laid-out plan, or a refusal, is at most. Assumes nothing.
 use mathlib.Core.Path.{_≡_, ap, _∙_}
 use mathlib.Core.Bool.{true}
 use mathlib.Core.List.{List, [], _∷_}
@@ -11,7 +11,7 @@ use Rattle.form.specs.Form.{laidOut, decode}
 use Rattle.form.specs.Parts.{Laid}
 use Rattle.form.proofs.Layouts.{laid}
 use Rattle.form.proofs.Readings.{decode-arrays, decode-few, counts-length, counts-small}
-use Rattle.text.specs.Text.{decimal, spaced, line, lineNumbers, listing}
+use Rattle.text.specs.Text.{decimal, spaced, line, lineNumbers, listing, refused}
 use Rattle.text.specs.Write.{maxListing, Room, planLine}
 use Rattle.text.proofs.Decimals.{decimal-length, decimal-most}
 use Rattle.text.proofs.Lines.{array-line, listing-whole}
@@ -61,3 +61,8 @@ module _ (b : List ℕ) (l : laidOut b ≡ true) where
 
     pub listing-room : (out : List ℕ) (at : ℕ) → at + maxListing ≤ length out → Room out at (listing (decode b))
     listing-room out at h = record { fits = omega (arith, listing-length) }
+
+-- a refusal fits where any listing does
+pub refusal-room : (n : ℕ) {out : List ℕ} → maxListing ≤ length out → Room out 0 (refused n)
+unfolding refused line spaced
+refusal-room n h = record { fits = omega (arith, length-append (decimal n) (10 ∷ []), decimal-most n) }

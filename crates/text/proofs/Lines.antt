@@ -6,7 +6,7 @@ use Prim.Native.Nat.{ℕ, zero, suc, _+_, _-_, _*_, _<_, _≤_}
 use native.Mathlib.Nat.{not-suc-le-zero, le-of-suc-le-suc}
 use native.Mathlib.Numerals.{add-one}
 use native.Mathlib.Omega.{arith}
-use lib.ListN.{length, getD, set, take, replicate, length-append, length-set, length-map, length-replicate}
+use lib.ListN.{length, getD, set, take, replicate, length-set, length-map, length-replicate}
 use lib.Seq.{ext-getD, take-length, length-take-le, getD-take, getD-set-same, getD-set-other}
 use mir.Val.{Fits}
 use mir.Syntax.{w32, w64}
@@ -22,8 +22,7 @@ use Rattle.form.proofs.Layouts.{laid}
 use Rattle.form.proofs.Readings.{decode-arrays, counts-length, contents-room}
 use Rattle.form.proofs.Sizing.{cells-are, sized-few, sized-fits}
 use Rattle.text.specs.Text.{decimal, spaced, line, printedLines, lineNumbers, listing, refusedWord, refused}
-use Rattle.text.specs.Write.{maxListing, Room, Wrote, gapBefore, planLine, LineOf, LineRead}
-use Rattle.text.proofs.Decimals.{decimal-most}
+use Rattle.text.specs.Write.{Room, Wrote, gapBefore, planLine, LineOf, LineRead}
 use Rattle.text.proofs.Writes.{room-first, room-then, wrote-then, Writing, writing-none, writing-all, writing-room, writing-more}
 
 -- a number of a line, with the space before it
@@ -72,8 +71,8 @@ module _ (l : List ℕ) where
     numbers-none n e = writing-none (partOf l) n (ap (λ (k : ℕ). joinTo k (partOf l)) e ∙ spaced-whole) (room-first (spaced l) _ line-parts)
 
     module _ {n i : ℕ} {after : List ℕ} {end : ℕ} (w : Writing (partOf l) n i (spaced l) out at after end) (m : n ≤ i) where
-      pub end-room : Room after end (10 ∷ [])
-      end-room = room-then (spaced l) _ line-parts (writing-all w m)
+      pub end-room : (x : ℕ) → Room after end (x ∷ [])
+      end-room x = record { fits = room-then (spaced l) _ line-parts (writing-all w m) .fits }
 
       pub line-wrote : {last : List ℕ} {r : ℕ} → Wrote after end (10 ∷ []) last r → Wrote out at (line l) last r
       unfolding line
@@ -250,21 +249,28 @@ plan-long b h = omega (arith, contents-room (laid b h))
 abbrev pub refusedSpace : List ℕ
 refusedSpace = refusedWord ++ (32 ∷ [])
 
-module _ (n x : ℕ) (e : x ≡ n) (out : List ℕ) (at : ℕ) (h : at + maxListing ≤ length out) where
-  parts : Room out at (refusedSpace ++ decimal x ++ (10 ∷ []))
-  parts = record { fits = omega (arith, length-append (decimal x) (10 ∷ []), decimal-most x) }
+module _ (n : ℕ) {out : List ℕ} {at : ℕ} (h : Room out at (refused n)) where
+  parts : Room out at (refusedSpace ++ decimal n ++ (10 ∷ []))
+  unfolding refused line spaced
+  parts = h
 
-  module _ {after : List ℕ} {end : ℕ} (w : Wrote out at refusedSpace after end) where
-    pub refusal-room : Room after end (decimal x)
-    refusal-room = room-then refusedSpace _ (room-first (refusedSpace ++ decimal x) _ parts) w
+  number : Room out at (refusedSpace ++ decimal n)
+  number = room-first (refusedSpace ++ decimal n) _ parts
+
+  pub refusal-word : Room out at refusedSpace
+  refusal-word = room-first refusedSpace _ number
+
+  module _ (x : ℕ) (e : x ≡ n) {after : List ℕ} {end : ℕ} (w : Wrote out at refusedSpace after end) where
+    pub refusal-number : Room after end (decimal x)
+    refusal-number = rw e (room-then refusedSpace _ number w)
 
     module _ {last : List ℕ} {stop : ℕ} (v : Wrote after end (decimal x) last stop) where
-      both : Wrote out at (refusedSpace ++ decimal x) last stop
-      both = wrote-then refusedSpace _ (room-first (refusedSpace ++ decimal x) _ parts) w v
+      both : Wrote out at (refusedSpace ++ decimal n) last stop
+      both = wrote-then refusedSpace _ number w (rw e at v)
 
       pub refusal-end : Room last stop (10 ∷ [])
-      refusal-end = room-then (refusedSpace ++ decimal x) _ parts both
+      refusal-end = room-then (refusedSpace ++ decimal n) _ parts both
 
       pub refusal-wrote : {all : List ℕ} {r : ℕ} → Wrote last stop (10 ∷ []) all r → Wrote out at (refused n) all r
       unfolding refused line spaced
-      refusal-wrote u = rw e at (wrote-then (refusedSpace ++ decimal x) _ parts both u)
+      refusal-wrote u = wrote-then (refusedSpace ++ decimal n) _ parts both u

@@ -20,7 +20,7 @@ fn output_table(rows: u32, columns: u32, denominator: u32, cells: &[u32], out: &
     let planned = plan(rows, columns, denominator, cells, &mut buffer);
     match planned {
         Planned::Refused(x) => print_refusal(x, out, 0),
-        Planned::Length(n) => print_plan_bytes(&buffer[..n], out, 0),
+        Planned::Length(n) => print_plan_bytes(&buffer[..n as usize], out, 0),
     }
 }
 

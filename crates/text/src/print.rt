@@ -6,7 +6,7 @@ ghost use Rattle.base.specs.Fill.{Filled};
 ghost use Rattle.form.specs.Form.{decode};
 ghost use Rattle.refusals.specs.Numbers.{numberOf};
 ghost use Rattle.text.specs.Text.{line, listing, refused, refusedText};
-ghost use Rattle.text.specs.Write.{maxListing, Room, Wrote, planLine, LineOf, LineRead, Printable, Listable, ListableAt};
+ghost use Rattle.text.specs.Write.{Room, Wrote, planLine, LineOf, LineRead, Printable, Listable, ListableAt};
 use crate::write::put_bytes;
 use crate::write::put_decimal;
 use crate::write::put_number;
@@ -110,7 +110,7 @@ pub fn print_plan_bytes(plan: &[u8], out: &mut [u8], at: usize) -> usize
 
 // The listing of a refusal.
 pub fn print_refusal(r: Refusal, out: &mut [u8], at: usize) -> usize
-    requires { ⌜ at + maxListing ≤ length (now out) ⌝ }
+    requires { ⌜ Room (now out) at (refused (numberOf r)) ⌝ }
     ensures { λ end. ⌜ Wrote (now (out .entry)) at (refused (numberOf r)) (now (out .exit)) end ⌝ }
 {
     let first = put_bytes(out, at, b"refused ");
@@ -120,7 +120,7 @@ pub fn print_refusal(r: Refusal, out: &mut [u8], at: usize) -> usize
 
 // The listing of a text that is refused.
 pub fn print_text_refusal(out: &mut [u8], at: usize) -> usize
-    requires { ⌜ at + maxListing ≤ length (now out) ⌝ }
+    requires { ⌜ Room (now out) at refusedText ⌝ }
     ensures { λ r. ⌜ Wrote (now (out .entry)) at refusedText (now (out .exit)) r ⌝ }
 {
     put_bytes(out, at, b"refused text\n")

@@ -14,7 +14,7 @@ use prog.Memory.{Memory}
 use prog.Routine.{Routine}
 use prog.Wp.{Heap, Calls, Loops, WpFn, Tables}
 use ghost.Atoms.{Atoms}
-use contract.Monad.{Fun, fact}
+use contract.Monad.{Fun, fact, factI}
 use contract.Running.{givenOf, tables, tablesOf}
 use types.Kit.{Given, ‵, raw, _⊛_, ⋆, some, later, _$_, _∵_, !, qed, by, move, keep, drop, use1, use2, split, join, pick, rewrite, fsplit, fsplit3, fjoin, fjoin3, feqL, feqI, suffices, frame, await, done}
 use types.Run.{look, init, forget, stop, hop, fld, from, load, addr, of-opd, and-then, no-more, land, assigns, returns, enter, alloc1, alloc0, params1, pass1, pass0, free1, free0}
@@ -42,17 +42,14 @@ use denote.Triple.Clauses.{Lasts, ensured, lasts}
 use denote.Triple.Walked.{Stays, stay-ref, stay-dropped, gave-slice, walkOf, AllGo, goes-ref, goes-dropped, goes-gave-slice, Walks, walked, walk-meets}
 use denote.Exit.{yes}
 use Rattle.refusals.specs.Answer.{answerNumber}
-use Rattle.refusals.specs.Due.{after, Answers}
 use Rattle.refusals.proofs.Answer as E
 use Rattle.refusals.proofs.Answer.Laws as E′
 use Rattle.refusals.proofs.answer_number as number
 use Rattle.refusals.proofs.answer_number.Symbol as number-def
 use Rattle.refusals.proofs.answer_number.Symbol.{name as #number}
 use Rattle.refusals.proofs.answer_number.Met as number-thm
-use Rattle.base.specs.Buffers.{written}
-use Rattle.form.specs.Form.{decode}
-use Rattle.opening.specs.Open.{drawnArray}
-use Rattle.campaign.specs.Record.{CampaignRecord, recordOf, campaignRefusal, taking}
+use Rattle.campaign.specs.Record.{CampaignRecord, recordOf}
+use Rattle.campaign.specs.Calls.{ask, made, Draws}
 use Rattle.campaign.specs.declared.Step.{Step}
 use Rattle.campaign.proofs.Step as S
 use Rattle.campaign.proofs.Step.Laws as S′
@@ -63,7 +60,7 @@ use Rattle.campaign.proofs.draw.draw.Met as core-thm
 use Rattle.exports.specs.declared.Record.{Record}
 use Rattle.exports.proofs.Record as R
 use Rattle.exports.proofs.Record.Laws as R′
-use Rattle.exports.proofs.Walks.{counting, record-val, record-is, count-fits, answer-is, Number, to-number, asked-number, numbered, three-clauses, ends-with}
+use Rattle.exports.proofs.Walks.{counting, record-val, record-is, count-fits, answer-is, Number, to-number, asked-number, numbered, ends-with}
 use Rattle.exports.proofs.lufodimi_campaign_draw.Key.{name as #caller}
 use Rattle.exports.proofs.lufodimi_campaign_draw as caller
 use Rattle.exports.proofs.lufodimi_campaign_draw.Statement as stated
@@ -87,12 +84,9 @@ module _ {M : Type 1} (𝓤 : URA M) (H : Heap 𝓤) (A : Atoms 𝓤) (W : Given
   abbrev old : CampaignRecord
   old = recordOf (h .taken) (x .now) (y .now)
 
-  -- what `draw` ensures of its answer, of the last bits and tally, and of the last counts
-  abbrev Left : Step → List ℕ → List ℕ → Type 0
-  Left r xs ys = Answers (campaignRefusal (p .now) d old (length (z .now))) (taking (decode (p .now)) d old) old (r .answer) (recordOf (r .taken) xs ys)
-
-  abbrev Drawn : List ℕ → Type 0
-  Drawn zs = zs ≡ after (campaignRefusal (p .now) d old (length (z .now))) (written (drawnArray (p .now) d) (z .now)) (z .now)
+  -- what `draw` ensures of its answer and of the last bits, tally and counts
+  abbrev Left : Step → List ℕ → List ℕ → List ℕ → Type 0
+  Left r xs ys zs = Draws (λ a. a) (made (p .now) old (ask d (z .now))) (r .answer) (recordOf (r .taken) xs ys) zs
 
   abbrev Post : Val → SProp 𝓤
   Post = walkOf 𝓤 H A caller.ended stayed (caller.clauses 𝓤 H A at-mem run) .post (((κ₀, (κ₁, (κ₂, (κ₃, (κ₄, tt))))), (q₀, (q₁, (q₂, (q₃, (q₄, tt))))), tt, a, vals), tt)
@@ -111,11 +105,11 @@ module _ {M : Type 1} (𝓤 : URA M) (H : Heap 𝓤) (A : Atoms 𝓤) (W : Given
   asked =
       qed W ((‵ (flft κ₀ q₀) ⊛ ‵ (flft κ₂ q₂) ⊛ ‵ (flft κ₃ q₃) ⊛ ‵ (flft κ₄ q₄) ⊛ ‵ ftrue) ∷ ‵ (owns (ShrSlice (named 0) κ₀ u8 ∷ u32 ∷ u32 ∷ MutSlice (named 1) κ₂ u8 ∷ MutSlice (named 2) κ₃ u32 ∷ MutSlice (named 3) κ₄ u16 ∷ []) args passed) ∷ []) ∵ join ! $ frame ! $ done !
 
-  exits : (r : Step) (n : ℕ) (w : Val) (xs ys zs : List ℕ) → n ≡ answerNumber (r .answer) → Left r xs ys → Drawn zs → length xs ≡ length (x .now) → length ys ≡ length (y .now) → length zs ≡ length (z .now)
+  exits : (r : Step) (n : ℕ) (w : Val) (xs ys zs : List ℕ) → n ≡ answerNumber (r .answer) → Left r xs ys zs → length xs ≡ length (x .now) → length ys ≡ length (y .now) → length zs ≡ length (z .now)
       → ent 𝓤 (⋆ 𝓤 H A (‵ (fobs γ (R.the-row .coded .code (counting (r .taken)))) ∷ ‵ (fbor κ₁ (Body (mem (R.the-row)) b o γ)) ∷ ‵ (flft κ₁ q₁) ∷ (‵ (flft κ₀ q₀) ⊛ ‵ (flft κ₂ q₂) ⊛ ‵ (flft κ₃ q₃) ⊛ ‵ (flft κ₄ q₄) ⊛ ‵ ftrue) ∷ ‵ (finally u16 (z .name) zs) ∷ ‵ (finally u32 (y .name) ys) ∷ ‵ (finally u8 (x .name) xs) ∷ ‵ (u32 .own n (w ∷ [])) ∷ [])) (Post w)
-  exits r n w xs ys zs e l c lx ly lz =
+  exits r n w xs ys zs e l lx ly lz =
       qed W (‵ (fobs γ (R.the-row .coded .code (counting (r .taken)))) ∷ ‵ (fbor κ₁ (Body (mem (R.the-row)) b o γ)) ∷ ‵ (flft κ₁ q₁) ∷ (‵ (flft κ₀ q₀) ⊛ ‵ (flft κ₂ q₂) ⊛ ‵ (flft κ₃ q₃) ⊛ ‵ (flft κ₄ q₄) ⊛ ‵ ftrue) ∷ ‵ (finally u16 (z .name) zs) ∷ ‵ (finally u32 (y .name) ys) ∷ ‵ (finally u8 (x .name) xs) ∷ ‵ (u32 .own n (w ∷ [])) ∷ []) ∵
-      suffices ! _ (ends-with 𝓤 H A caller.ended stayed (caller.clauses 𝓤 H A at-mem run) W (((κ₀, (κ₁, (κ₂, (κ₃, (κ₄, tt))))), (q₀, (q₁, (q₂, (q₃, (q₄, tt))))), tt, a, vals), tt) w n (tt, (tt, (counting (r .taken), (xs, (ys, (zs, tt)))))) (tt, (tt, (tt, (lx, (ly, (lz, tt)))))) (three-clauses 𝓤 (e ∙ ap answerNumber (l .answer)) (l .left) c)) $
+      suffices ! _ (ends-with 𝓤 H A caller.ended stayed (caller.clauses 𝓤 H A at-mem run) W (((κ₀, (κ₁, (κ₂, (κ₃, (κ₄, tt))))), (q₀, (q₁, (q₂, (q₃, (q₄, tt))))), tt, a, vals), tt) w n (tt, (tt, (counting (r .taken), (xs, (ys, (zs, tt)))))) (tt, (tt, (tt, (lx, (ly, (lz, tt)))))) (factI 𝓤 _ (emp 𝓤) (record { answer = e ∙ ap answerNumber (l .answer); left = l .left; result = l .result }))) $
       move ! (3 ∷ []) $ split ! $ move ! (4 ∷ 1 ∷ []) $ join ! $ move ! (1 ∷ 0 ∷ []) $ join ! $ frame ! $
       nothing ! $ move ! (3 ∷ 0 ∷ []) $ fjoin ! $ move ! (3 ∷ 0 ∷ []) $ fjoin ! $ move ! (3 ∷ 0 ∷ []) $ fjoin ! $ feqI ! (List Val) (vptr b o ∷ []) (vptr b o ∷ []) refl $ move ! (0 ∷ 2 ∷ 3 ∷ []) $ fjoin3 ! $ fjoin ! $ nothing ! $ fjoin ! $ nothing ! $ fjoin ! $ frame ! $ done !
 
@@ -148,8 +142,8 @@ module _ {M : Type 1} (𝓤 : URA M) (H : Heap 𝓤) (A : Atoms 𝓤) (W : Given
         calls-at ! fm (Core 𝓤 H A at-mem run) known to (and-then ! (load ! (from ! (stop !)) (look ! 32 refl)) (and-then ! (load ! (from ! (stop !)) (look ! 30 refl)) (and-then ! (load ! (from ! (stop !)) (look ! 18 refl)) (and-then ! (load ! (from ! (stop !)) (look ! 14 refl)) (and-then ! (load ! (from ! (stop !)) (look ! 10 refl)) (and-then ! (load ! (from ! (stop !)) (look ! 6 refl)) (no-more !))))))) (λ v.
         use1 W (later (some (λ (r : Step). ((‵ (flft κ₀ q₀) ⊛ ‵ (flft κ₂ q₂) ⊛ ‵ (flft κ₃ q₃) ⊛ ‵ (flft κ₄ q₄) ⊛ ‵ ftrue) ⊛ ‵ (S.the-row .own r (v ∷ []))) ⊛ raw (ensured 𝓤 H A core.ended (core.clauses 𝓤 H A at-mem run) (κ₀, (κ₂, (κ₃, (κ₄, tt)))) args tt r)))) (id⊢ 𝓤 _) $ await ! tt $ pick ! (λ r.
         -- what `draw` ensures, at some last bits, tally and counts
-        split ! $ move ! (1 ∷ []) $ use1 W (some (λ (ws : Lasts core.ended (κ₀, (κ₂, (κ₃, (κ₄, tt)))) args). ‵ (lasts core.ended (κ₀, (κ₂, (κ₃, (κ₄, tt)))) args ws) ⊛ raw (fact 𝓤 (Left r (ws .1 .1 .1 .0) (ws .1 .1 .1 .1 .0))) ⊛ raw (fact 𝓤 (Drawn (ws .1 .1 .1 .1 .1 .0))))) (id⊢ 𝓤 _) $ pick ! (λ ws.
-        split ! $ move ! (1 ∷ []) $ split ! $ heard ! (Left r (ws .1 .1 .1 .0) (ws .1 .1 .1 .1 .0)) (λ l. heard ! (Drawn (ws .1 .1 .1 .1 .1 .0)) (λ c.
+        split ! $ move ! (1 ∷ []) $ use1 W (some (λ (ws : Lasts core.ended (κ₀, (κ₂, (κ₃, (κ₄, tt)))) args). ‵ (lasts core.ended (κ₀, (κ₂, (κ₃, (κ₄, tt)))) args ws) ⊛ raw (fact 𝓤 (Left r (ws .1 .1 .1 .0) (ws .1 .1 .1 .1 .0) (ws .1 .1 .1 .1 .1 .0))))) (id⊢ 𝓤 _) $ pick ! (λ ws.
+        split ! $ move ! (1 ∷ []) $ heard ! (Left r (ws .1 .1 .1 .0) (ws .1 .1 .1 .1 .0) (ws .1 .1 .1 .1 .1 .0)) (λ l.
         fsplit ! $ drop ! $ fsplit ! $ drop ! $ fsplit ! $ drop ! $ fsplit ! $ fsplit ! $ move ! (1 ∷ []) $ feqL ! (λ lx. move ! (1 ∷ []) $ fsplit ! $ fsplit ! $ move ! (1 ∷ []) $ feqL ! (λ ly. move ! (1 ∷ []) $ fsplit ! $ fsplit ! $ move ! (1 ∷ []) $ feqL ! (λ lz.
         -- [the last counts; true; the last tally and bits; the tokens and the answer; the struct's cell; what a Record owns; the open borrow; obs; auth; _14; …; room for _0; …]
         move ! (4 ∷ []) $ split ! $ move ! (1 ∷ []) $ peeks ! (S.the-row) (Is (S.the-row)) (shows 𝓤 H A (S.the-row)) r (v ∷ []) (λ is.
@@ -165,7 +159,7 @@ module _ {M : Type 1} (𝓤 : URA M) (H : Heap 𝓤) (A : Atoms 𝓤) (W : Given
         peeks ! u32 (Is u32) (shows 𝓤 H A u32) n (w ∷ []) (λ isn. land ! (from ! (stop !)) (init ! 37 refl (uint-lawful 𝓤 H A W w32 .typed n _ isn .0)) $
         returns ! (look ! 37 refl) $ forget ! 9 refl $ forget ! 11 refl $ forget ! 13 refl $ forget ! 15 refl $ forget ! 17 refl $ forget ! 19 refl $ forget ! 21 refl $ forget ! 23 refl $ forget ! 25 refl $ forget ! 27 refl $ forget ! 29 refl $ forget ! 31 refl $ forget ! 33 refl $ forget ! 35 refl $ forget ! 37 refl $
         move ! (37 ∷ 38 ∷ []) $ free1 ! $ move ! (35 ∷ 36 ∷ []) $ free1 ! $ move ! (33 ∷ 34 ∷ []) $ free1 ! $ move ! (31 ∷ 32 ∷ []) $ free1 ! $ move ! (29 ∷ 30 ∷ []) $ free1 ! $ move ! (27 ∷ 28 ∷ []) $ free1 ! $ move ! (25 ∷ 26 ∷ []) $ free1 ! $ move ! (23 ∷ 24 ∷ []) $ free1 ! $ move ! (21 ∷ 22 ∷ []) $ free1 ! $ move ! (19 ∷ 20 ∷ []) $ free1 ! $ move ! (17 ∷ 18 ∷ []) $ free1 ! $ move ! (15 ∷ 16 ∷ []) $ free1 ! $ move ! (13 ∷ 14 ∷ []) $ free1 ! $ move ! (11 ∷ 12 ∷ []) $ free1 ! $ move ! (9 ∷ 10 ∷ []) $ free1 ! $ free0 ! $
-        keep ! (1 ∷ 2 ∷ 3 ∷ 4 ∷ 5 ∷ 7 ∷ 8 ∷ 0 ∷ []) $ by ! (exits r n w (ws .1 .1 .1 .0) (ws .1 .1 .1 .1 .0) (ws .1 .1 .1 .1 .1 .0) e l c lx ly lz)))))))))))))))))))))))))))))))
+        keep ! (1 ∷ 2 ∷ 3 ∷ 4 ∷ 5 ∷ 7 ∷ 8 ∷ 0 ∷ []) $ by ! (exits r n w (ws .1 .1 .1 .0) (ws .1 .1 .1 .1 .0) (ws .1 .1 .1 .1 .1 .0) e l lx ly lz))))))))))))))))))))))))))))))
 
 module _ {M : Type 1} (𝓤 : URA M) (H : Heap 𝓤) (A : Atoms 𝓤) (W : Given 𝓤 H A) (at-mem : Memory → SProp 𝓤) (run : Routine → Fun 𝓤) where
   walks : (C : Calls 𝓤 H) (Λ : Loops 𝓤 H) → FmC 𝓤 H (W .laws) C → Triple 𝓤 (C #core) (Core 𝓤 H A at-mem run) → Triple 𝓤 (C #number) (Number 𝓤 H A at-mem run) → Walks 𝓤 H A caller.ended stayed (WpFn 𝓤 H C Λ code.function) (caller.clauses 𝓤 H A at-mem run)

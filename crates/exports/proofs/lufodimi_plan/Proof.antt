@@ -1,12 +1,9 @@
 use mathlib.Core.Path.{ap, _∙_, subst}
 use Rattle.plan.specs.Call.{plannedNumber, Apart}
-use Rattle.plan.proofs.PlanCalls.{number-small, number-apart}
+use Rattle.plan.proofs.PlanCalls.{number-apart}
 use borrow.Author.Needs.{needs}
 use Rattle.exports.proofs.lufodimi_plan.Statement.{statement}
 use Rattle.exports.proofs.lufodimi_plan.Tie as tie
-
-planned-number-requires : tie.Need-planned-number-requires
-planned-number-requires c κs = number-small (c .before .before .plan .ensures)
 
 returns : tie.Need-returns
 returns c =
@@ -14,4 +11,4 @@ returns c =
     (c .planned-number .ensures ∙ ap plannedNumber (r .answer), (r .buffer, subst Apart (r .answer) (number-apart r)))
 
 pub lufodimi-plan-spec : {M : Type 1} → statement M
-lufodimi-plan-spec = tie.close (tie.spec (λ c κs. search needs) planned-number-requires (λ c. search needs) returns)
+lufodimi-plan-spec = tie.close (tie.spec (λ c κs. search needs) (λ c κs. search needs) (λ c. search needs) returns)

@@ -14,7 +14,7 @@ use prog.Memory.{Memory}
 use prog.Routine.{Routine}
 use prog.Wp.{Heap, Calls, Loops, WpFn, Tables}
 use ghost.Atoms.{Atoms}
-use contract.Monad.{Fun, fact}
+use contract.Monad.{Fun, fact, factI}
 use contract.Running.{givenOf, tables, tablesOf}
 use types.Kit.{Given, ‵, raw, _⊛_, ⋆, some, later, _$_, _∵_, !, qed, by, move, keep, drop, use1, use2, split, join, pick, rewrite, fsplit, fsplit3, fjoin, fjoin3, feqL, feqI, suffices, frame, await, done}
 use types.Run.{look, init, forget, stop, hop, fld, from, load, addr, of-opd, and-then, no-more, land, assigns, returns, enter, alloc1, alloc0, params1, pass1, pass0, free1, free0}
@@ -42,15 +42,14 @@ use denote.Triple.Clauses.{Lasts, ensured, lasts}
 use denote.Triple.Walked.{Stays, stay-ref, stay-dropped, gave-slice, walkOf, AllGo, goes-ref, goes-dropped, goes-gave-slice, Walks, walked, walk-meets}
 use denote.Exit.{yes}
 use Rattle.refusals.specs.Answer.{answerNumber}
-use Rattle.refusals.specs.Due.{Answers}
 use Rattle.refusals.proofs.Answer as E
 use Rattle.refusals.proofs.Answer.Laws as E′
 use Rattle.refusals.proofs.answer_number as number
 use Rattle.refusals.proofs.answer_number.Symbol as number-def
 use Rattle.refusals.proofs.answer_number.Symbol.{name as #number}
 use Rattle.refusals.proofs.answer_number.Met as number-thm
-use Rattle.form.specs.Form.{decode}
-use Rattle.campaign.specs.Record.{CampaignRecord, recordOf, startRefusal, started}
+use Rattle.campaign.specs.Record.{CampaignRecord, recordOf}
+use Rattle.campaign.specs.Calls.{started, Starts}
 use Rattle.campaign.specs.declared.Step.{Step}
 use Rattle.campaign.proofs.Step as S
 use Rattle.campaign.proofs.Step.Laws as S′
@@ -61,7 +60,7 @@ use Rattle.campaign.proofs.start.start.Met as core-thm
 use Rattle.exports.specs.declared.Record.{Record}
 use Rattle.exports.proofs.Record as R
 use Rattle.exports.proofs.Record.Laws as R′
-use Rattle.exports.proofs.Walks.{counting, record-val, record-is, count-fits, answer-is, Number, to-number, asked-number, numbered, two-clauses, ends-with}
+use Rattle.exports.proofs.Walks.{counting, record-val, record-is, count-fits, answer-is, Number, to-number, asked-number, numbered, ends-with}
 use Rattle.exports.proofs.lufodimi_start.Key.{name as #caller}
 use Rattle.exports.proofs.lufodimi_start as caller
 use Rattle.exports.proofs.lufodimi_start.Statement as stated
@@ -87,7 +86,7 @@ module _ {M : Type 1} (𝓤 : URA M) (H : Heap 𝓤) (A : Atoms 𝓤) (W : Given
 
   -- what `start` ensures of its answer and of the last bits and tally
   abbrev Left : Step → List ℕ → List ℕ → Type 0
-  Left r xs ys = Answers (startRefusal (p .now) old) (started (decode (p .now)) old) old (r .answer) (recordOf (r .taken) xs ys)
+  Left r xs ys = Starts (λ a. a) (started (p .now) old) (r .answer) (recordOf (r .taken) xs ys)
 
   abbrev Post : Val → SProp 𝓤
   Post = walkOf 𝓤 H A caller.ended stayed (caller.clauses 𝓤 H A at-mem run) .post (((κ₀, (κ₁, (κ₂, (κ₃, tt)))), (q₀, (q₁, (q₂, (q₃, tt)))), tt, a, vals), tt)
@@ -110,7 +109,7 @@ module _ {M : Type 1} (𝓤 : URA M) (H : Heap 𝓤) (A : Atoms 𝓤) (W : Given
       → ent 𝓤 (⋆ 𝓤 H A (‵ (fobs γ (R.the-row .coded .code (counting (r .taken)))) ∷ ‵ (fbor κ₁ (Body (mem (R.the-row)) b o γ)) ∷ ‵ (flft κ₁ q₁) ∷ (‵ (flft κ₀ q₀) ⊛ ‵ (flft κ₂ q₂) ⊛ ‵ (flft κ₃ q₃) ⊛ ‵ ftrue) ∷ ‵ (finally u32 (y .name) ys) ∷ ‵ (finally u8 (x .name) xs) ∷ ‵ (u32 .own n (w ∷ [])) ∷ [])) (Post w)
   exits r n w xs ys e l lx ly =
       qed W (‵ (fobs γ (R.the-row .coded .code (counting (r .taken)))) ∷ ‵ (fbor κ₁ (Body (mem (R.the-row)) b o γ)) ∷ ‵ (flft κ₁ q₁) ∷ (‵ (flft κ₀ q₀) ⊛ ‵ (flft κ₂ q₂) ⊛ ‵ (flft κ₃ q₃) ⊛ ‵ ftrue) ∷ ‵ (finally u32 (y .name) ys) ∷ ‵ (finally u8 (x .name) xs) ∷ ‵ (u32 .own n (w ∷ [])) ∷ []) ∵
-      suffices ! _ (ends-with 𝓤 H A caller.ended stayed (caller.clauses 𝓤 H A at-mem run) W (((κ₀, (κ₁, (κ₂, (κ₃, tt)))), (q₀, (q₁, (q₂, (q₃, tt)))), tt, a, vals), tt) w n (tt, (counting (r .taken), (xs, (ys, tt)))) (tt, (tt, (lx, (ly, tt)))) (two-clauses 𝓤 (e ∙ ap answerNumber (l .answer)) (l .left))) $
+      suffices ! _ (ends-with 𝓤 H A caller.ended stayed (caller.clauses 𝓤 H A at-mem run) W (((κ₀, (κ₁, (κ₂, (κ₃, tt)))), (q₀, (q₁, (q₂, (q₃, tt)))), tt, a, vals), tt) w n (tt, (counting (r .taken), (xs, (ys, tt)))) (tt, (tt, (lx, (ly, tt)))) (factI 𝓤 _ (emp 𝓤) (record { answer = e ∙ ap answerNumber (l .answer); left = l .left }))) $
       move ! (3 ∷ []) $ split ! $ move ! (4 ∷ 1 ∷ []) $ join ! $ move ! (1 ∷ 0 ∷ []) $ join ! $ frame ! $
       nothing ! $ move ! (3 ∷ 0 ∷ []) $ fjoin ! $ move ! (3 ∷ 0 ∷ []) $ fjoin ! $ feqI ! (List Val) (vptr b o ∷ []) (vptr b o ∷ []) refl $ move ! (0 ∷ 2 ∷ 3 ∷ []) $ fjoin3 ! $ fjoin ! $ nothing ! $ fjoin ! $ frame ! $ done !
 

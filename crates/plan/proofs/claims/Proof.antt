@@ -1,11 +1,10 @@
--- `plan::claims` states what proofs/Examples.antt and proofs/ZeroPlans.antt prove.
-use Rattle.plan.proofs.Examples.{examples-hold, draws-hold, bounds-hold, slips-shut}
-use Rattle.plan.proofs.ZeroPlans.{zero-plan}
+-- `plan::claims` states what proofs/Examples.antt proves.
+use Rattle.plan.proofs.Examples.{limits-hold, calls-hold}
 use Rattle.plan.proofs.claims.Statement.{statement}
 use Rattle.plan.proofs.claims.Tie as tie
 
 returns : tie.Need-returns
-returns c = (examples-hold, (draws-hold, (zero-plan, (bounds-hold, slips-shut))))
+returns c = (limits-hold, calls-hold)
 
 pub claims-spec : {M : Type 1} → statement M
 claims-spec = tie.close (tie.spec returns)

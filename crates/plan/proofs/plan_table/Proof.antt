@@ -1,4 +1,4 @@
-use Rattle.plan.proofs.PlanCalls.{length-ready, too-short, writable, long-enough}
+use Rattle.plan.proofs.PlanCalls.{length-ready, length-fits, too-short, writable, long-enough}
 use borrow.Author.Needs.{needs}
 use Rattle.plan.proofs.plan_table.Statement.{statement}
 use Rattle.plan.proofs.plan_table.Tie as tie
@@ -30,5 +30,6 @@ plan-table-spec =
     (λ c. search needs)
     (λ c. search needs)
     write-requires
+    (λ c. search (needs, length-fits))
     (λ c. search needs)
     returns-2)

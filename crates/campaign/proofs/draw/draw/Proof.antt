@@ -19,7 +19,7 @@ add-counts-requires : tie.Need-add-counts-requires
 add-counts-requires c κs =
     let wrote = c .before .before .before .before in
     let told = wrote .before .before .before .before in
-    addable _ _ _ _ (told .before .before .draw-opened .ensures) (told .opened2 .given .1) _ (wrote .write-array .ensures) refl
+    addable _ _ _ _ (told .before .before .draw-opened .ensures) (told .opened2 .given .1) _ refl (wrote .write-array .ensures)
 
 set-bit-requires : tie.Need-set-bit-requires
 set-bit-requires c κs =
@@ -34,7 +34,7 @@ add-count c =
 returns : tie.Need-returns
 returns c =
     let told = c .before in
-    draw-keeps _ _ _ _ (told .before .before .draw-opened .ensures) _ (told .opened .given .1)
+    draw-keeps _ _ _ _ (told .before .before .draw-opened .ensures) _ refl (told .opened .given .1)
 
 returns-2 : tie.Need-returns-2
 returns-2 c =
@@ -42,7 +42,7 @@ returns-2 c =
     let added = marked .before .before .before .before in
     let wrote = added .before .before .before .before .before in
     let told = wrote .before .before .before .before in
-    draw-leaves _ _ _ _ (told .before .before .draw-opened .ensures) (told .opened2 .given .1) _ (wrote .write-array .ensures) (added .add-counts .ensures) (marked .set-bit .ensures)
+    draw-leaves _ _ _ _ (told .before .before .draw-opened .ensures) (told .opened2 .given .1) _ refl (wrote .write-array .ensures) (added .add-counts .ensures) (marked .set-bit .ensures)
 
 pub draw-spec : {M : Type 1} → statement M
 draw-spec =

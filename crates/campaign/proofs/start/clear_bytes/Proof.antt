@@ -1,7 +1,7 @@
 use Prim.Native.Nat.{_≤_, _-_}
 use Rattle.base.specs.Fill.{Filled}
 use Rattle.base.proofs.Filling.{filled-none}
-use Rattle.campaign.proofs.Calling.{cleared, cleared-more}
+use Rattle.campaign.proofs.Calling.{zeroed, zeroed-more}
 use borrow.Author.Needs.{needs}
 use Rattle.campaign.proofs.start.clear_bytes.Statement.{statement}
 use Rattle.campaign.proofs.start.clear_bytes.Tie as tie
@@ -22,6 +22,6 @@ clear-bytes-spec =
     (λ c. search needs)
     (λ c. search needs)
     (λ c. search needs)
-    (λ c. search (needs, cleared-more))
+    (λ c. search (needs, zeroed-more))
     (λ c. search needs)
-    (λ c. search (needs, cleared)))
+    (λ c. search (needs, zeroed)))

@@ -1,7 +1,7 @@
 use Prim.Native.Nat.{_≤_, _-_}
 use Rattle.base.specs.Fill.{Filled}
 use Rattle.base.proofs.Filling.{filled-none}
-use Rattle.campaign.proofs.Calling.{cleared, cleared-more}
+use Rattle.campaign.proofs.Calling.{zeroed, zeroed-more}
 use borrow.Author.Needs.{needs}
 use Rattle.campaign.proofs.start.clear_numbers.Statement.{statement}
 use Rattle.campaign.proofs.start.clear_numbers.Tie as tie
@@ -23,6 +23,6 @@ clear-numbers-spec =
     (λ c. search needs)
     (λ c. search needs)
     (λ c. search needs)
-    (λ c. search (needs, cleared-more))
+    (λ c. search (needs, zeroed-more))
     (λ c. search needs)
-    (λ c. search (needs, cleared)))
+    (λ c. search (needs, zeroed)))

@@ -1,4 +1,5 @@
 use native.Mathlib.Omega.{arith}
+use Rattle.text.proofs.Lengths.{refusal-room}
 use Rattle.text.proofs.Outputs.{refusal-printed, plan-listed, listing-printed}
 use borrow.Author.Needs.{needs}
 use Rattle.text.proofs.output.output_table.Statement.{statement}
@@ -6,6 +7,9 @@ use Rattle.text.proofs.output.output_table.Tie as tie
 
 slice-aggregate-plan : tie.Need-slice-aggregate-plan
 slice-aggregate-plan c = search needs
+
+print-refusal-requires : tie.Need-print-refusal-requires
+print-refusal-requires c κs = search (needs, refusal-room)
 
 array-share-prefix-buffer : tie.Need-array-share-prefix-buffer
 array-share-prefix-buffer c =
@@ -48,7 +52,8 @@ output-table-spec =
     slice-aggregate-plan
     (λ c κs. search needs)
     (λ c. search needs)
-    (λ c κs. search needs)
+    print-refusal-requires
+    (λ c. search needs)
     (λ c. search needs)
     array-share-prefix-buffer
     slice-aggregate-print-plan-bytes

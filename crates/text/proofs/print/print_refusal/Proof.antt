@@ -1,10 +1,13 @@
-use Rattle.text.proofs.Lines.{refusal-room, refusal-end, refusal-wrote}
+use Rattle.text.proofs.Lines.{refusal-word, refusal-number, refusal-end, refusal-wrote}
 use borrow.Author.Needs.{needs}
 use Rattle.text.proofs.print.print_refusal.Statement.{statement}
 use Rattle.text.proofs.print.print_refusal.Tie as tie
 
+put-bytes-requires : tie.Need-put-bytes-requires
+put-bytes-requires c κs = search (needs, refusal-word)
+
 put-decimal-requires : tie.Need-put-decimal-requires
-put-decimal-requires c κs = search (needs, refusal-room)
+put-decimal-requires c κs = search (needs, refusal-number)
 
 put-bytes-requires-2 : tie.Need-put-bytes-requires-2
 put-bytes-requires-2 c κs = search (needs, refusal-end)
@@ -17,7 +20,7 @@ print-refusal-spec =
     tie.close
     (tie.spec
     (λ c. search needs)
-    (λ c κs. search needs)
+    put-bytes-requires
     (λ c κs. search needs)
     put-decimal-requires
     (λ c. search needs)

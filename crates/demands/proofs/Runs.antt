@@ -13,16 +13,36 @@ use Rattle.base.proofs.Buffers.{written-front}
 use Rattle.refusals.specs.declared.Answer.the-variants.{Done, Refused}
 use Rattle.refusals.specs.declared.Refusal.{Refusal}
 use Rattle.refusals.specs.declared.Refusal.the-variants.{Buffer, Number, Record, Taken}
-use Rattle.refusals.specs.Due.{refuse, due, answerOf, after}
+use Rattle.refusals.specs.Answer.{answerNumber}
+use Rattle.refusals.specs.Due.{Test, refuse, due, answerOf, after}
 use Rattle.refusals.proofs.Dues.{due-second, not-here, not-later}
 use Rattle.form.specs.Plan.{Plan, cellCount}
 use Rattle.form.specs.Form.{decode}
 use Rattle.opening.specs.Open.{openTests, openRefusal, Opens, drawRefusal, drawnArray}
-use Rattle.campaign.specs.Record.{CampaignRecord, bitOf, roomFor, startTests, startRefusal, campaignRefusal, taking}
-use Rattle.campaign.specs.Claim.{Asked, Made, made, draws, lastRecord, used, runTests, answerDue, DrawClaim}
+use Rattle.campaign.specs.Record.{CampaignRecord, bitOf, roomFor, startTests, startRefusal, cleared, campaignRefusal, taking}
+use Rattle.campaign.specs.Calls.{started, Asked, Made, made}
+use Rattle.demands.specs.Runs.{draws, lastRecord, used}
+use Rattle.demands.specs.Claim.{DrawClaim}
 use Rattle.campaign.proofs.Opened.{sound}
 use Rattle.campaign.proofs.Numbers.{array-length}
-use Rattle.campaign.proofs.Steps.{RunHolds, fits-run, step-refused, step-accepted}
+use Rattle.demands.proofs.Steps.{RunHolds, fits-run, step-refused, step-accepted}
+
+-- the refusals that a draw of a run can meet
+abbrev runTests : Plan → List Made → Asked → List Test
+runTests p earlier x =
+    refuse Buffer (ltb (length (x .buffer)) (cellCount p))
+    ∷ refuse Number (leb (p .denominator) (x .number))
+    ∷ refuse Taken (used earlier (x .number))
+    ∷ []
+
+-- and their numbers
+number-due : (short above taken : Bool) → answerNumber (answerOf (due (refuse Buffer short ∷ refuse Number above ∷ refuse Taken taken ∷ [])))
+    ≡ cond short 7 (cond above 8 (cond taken 10 0))
+unfolding due answerOf
+number-due true above taken = refl
+number-due false true taken = refl
+number-due false false true = refl
+number-due false false false = refl
 
 -- no draw of a run is refused by 9, and a number below D is taken if it is used
 same-due : (short above unfit taken : Bool) {used : Bool} → unfit ≡ false → (above ≡ false → taken ≡ used)
@@ -62,8 +82,13 @@ module _ (b : List ℕ) (o : Opens b) (s₀ : CampaignRecord) (room : roomFor (d
   unfolding startRefusal openRefusal due
   start-due s h = due-second (openTests b) (refuse Buffer (not (roomFor (decode b) s)) ∷ []) o ∙ simp h
 
-  pub start-done : startRefusal b s₀ ≡ none
-  start-done = start-due s₀ room
+  pub start-done : started b s₀ .answer ≡ Done
+  unfolding started answerOf
+  start-done = ap answerOf (start-due s₀ room)
+
+  pub start-left : started b s₀ .left ≡ cleared (decode b) s₀
+  unfolding started after
+  start-left = rw (start-due s₀ room)
 
   -- a draw of a run
   module _ {h : List Made} {s : CampaignRecord} (holds : RunHolds (decode b) s₀ h s) (x : Asked) where
@@ -102,9 +127,9 @@ module _ (b : List ℕ) (o : Opens b) (s₀ : CampaignRecord) (room : roomFor (d
     left-by e = rw e
 
     pub draw-claim : DrawClaim b h (made b s x)
-    unfolding made answerDue after
+    unfolding made after
     draw-claim = record {
-      answer = ap answerOf due-by;
+      number = ap (λ (o : Option Refusal). answerNumber (answerOf o)) due-by ∙ number-due _ _ _;
       wrote = λ e. let n = done-none _ e in (plain-draw n, result-by n);
       kept = λ y e. let n = refused-some _ e in (result-by n, left-by n);
     }

@@ -2,27 +2,30 @@
 use mathlib.Core.Path.{_≡_, sym, ap, _∙_, refl, ap₂}
 use mathlib.Core.Bool.{Bool, cond, _&&_, _||_, or-false, or-assoc, true, false}
 use mathlib.Core.List.{List, [], _∷_, _++_}
-use Prim.Native.Nat.{ℕ, _+_, _/_, _<_, _≤_}
+use Prim.Native.Nat.{ℕ, _+_, _/_, _<_}
 use native.Mathlib.Nat.{add-zero}
 use native.Mathlib.Omega.{arith}
-use lib.Dec.{eqb, leb}
+use lib.Dec.{eqb}
 use Rattle.base.proofs.Sums.{list-append, sum-ext, sum-zero, sum-one-more}
 use Rattle.base.specs.Lists.{sum, tabulate, sumTo}
 use Rattle.refusals.specs.declared.Answer.{Answer}
 use Rattle.refusals.specs.declared.Answer.the-variants.{Done, Refused}
 use Rattle.refusals.specs.declared.Refusal.{Refusal}
-use Rattle.campaign.specs.Claim.{Made, isDone, used, overAccepted, RecordClaim}
+use Rattle.campaign.specs.Calls.{Made}
+use Rattle.demands.specs.Runs.{isDone, used, overAccepted}
+use Rattle.demands.specs.Claim.{RecordClaim}
 use lib.ListN.{length, getD, take, replicate, length-set, length-replicate, getD-replicate}
 use lib.Seq.{drop-set-lt}
-use borrow.Author.Tests.{leb-true, eq-eqb, ne-eqb}
+use borrow.Author.Tests.{eq-eqb, ne-eqb}
 use Rattle.table.specs.Table.{total}
-use Rattle.base.proofs.Lists.{and-left, and-right, length-tabulate, getD-tabulate, all-tabulate}
+use Rattle.base.proofs.Lists.{length-tabulate, getD-tabulate, all-tabulate}
 use Rattle.form.specs.Plan.{Plan, cellCount, arrayFor}
-use Rattle.campaign.specs.Record.{CampaignRecord, bitOf, bitBytes, spareClear, takenSum, fits, roomFor, started, taking}
+use Rattle.campaign.specs.Record.{CampaignRecord, bitOf, bitBytes, spareClear, takenSum, fits, roomFor, cleared, taking}
 use Rattle.base.proofs.Tests.{test-times, test-or}
 use Rattle.base.proofs.Buffers.{written-at, written-length, written-beyond}
 use Rattle.campaign.proofs.Bits.{bit-set, bit-clear}
 use Rattle.campaign.proofs.Numbers.{total-one}
+use Rattle.campaign.proofs.Long.{room-bits, room-tally}
 
 used-more : (h : List Made) (t : Made) (d : ℕ) → used (h ++ (t ∷ [])) d ≡ (used h d || isDone (t .answer) && eqb (t .asked .number) d)
 unfolding used
@@ -93,14 +96,6 @@ module _ {p : Plan} {s₀ s : CampaignRecord} {h : List Made} (holds : RunHolds 
     spent = λ f. over-refused h t a _ ∙ holds .spent f ∙ sum-ext (p .denominator) _ _ (λ d l. rw (used-refused h t a d));
   }
 
--- what a record long enough means
-module _ (p : Plan) (s : CampaignRecord) (room : roomFor p s ≡ true) where
-  pub room-bits : bitBytes (p .denominator) ≤ length (s .bits)
-  room-bits = leb-true _ _ (and-left (leb (bitBytes (p .denominator)) (length (s .bits))) (leb (cellCount p) (length (s .tally))) room)
-
-  pub room-tally : cellCount p ≤ length (s .tally)
-  room-tally = leb-true _ _ (and-right (leb (bitBytes (p .denominator)) (length (s .bits))) (leb (cellCount p) (length (s .tally))) room)
-
 -- an accepted draw of an unused number
 module _ {p : Plan} {s₀ s : CampaignRecord} {h : List Made} (holds : RunHolds p s₀ h s) (room : roomFor p s₀ ≡ true) (t : Made)
     (a : t .answer ≡ Done) (below : t .asked .number < p .denominator) (new : used h (t .asked .number) ≡ false)
@@ -141,8 +136,8 @@ module _ {p : Plan} {s₀ s : CampaignRecord} {h : List Made} (holds : RunHolds 
 
 -- a start clears the record
 module _ (p : Plan) (s₀ : CampaignRecord) (room : roomFor p s₀ ≡ true) where
-  pub step-start : RunHolds p s₀ [] (started p s₀)
-  unfolding started overAccepted sum used
+  pub step-start : RunHolds p s₀ [] (cleared p s₀)
+  unfolding cleared overAccepted sum used
   step-start =
       let b : List ℕ = replicate (bitBytes (p .denominator)) 0 in
       let be : length b ≡ bitBytes (p .denominator) = length-replicate _ 0 in

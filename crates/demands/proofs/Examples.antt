@@ -1,0 +1,49 @@
+-- The tables of specs/Examples.antt, specs/Campaigns.antt and specs/Slips.antt hold, by computation, and the examples about every denominator. Assumes nothing.
+use mathlib.Core.Path.{_≡_, refl}
+use mathlib.Core.List.{[], _∷_, map, zipWith}
+use Prim.Native.Nat.{ℕ, _+_, _*_, _≤_}
+use native.Mathlib.Omega.{arith}
+use borrow.Author.Tests.{le-leb, lt-leb}
+use Rattle.base.specs.Lists.{tabulate, sum, sumTo, joinTo, least, all}
+use Rattle.refusals.specs.Due.{due, answerOf, after}
+use Rattle.table.specs.Table.{total, entryPlaces, lines}
+use Rattle.table.specs.Whole.{whole, gap, roundsTo}
+use Rattle.table.specs.Check.{tableRefusal, checkOf, checkedNumber}
+use Rattle.order.specs.Order.{nthRow, nthColumn, rank}
+use Rattle.rounding.specs.Order.{inOrder, arrayOf, firstOf}
+use Rattle.rounding.specs.Rounding.{isRounding, firstRounding}
+use Rattle.form.specs.Plan.{arrayFor}
+use Rattle.form.specs.Form.{encode, head, contentsEntry, bytes, number, headRight, laidOut, decode}
+use Rattle.opening.specs.Open.{consistent}
+use Rattle.plan.specs.Rounds.{limitOf, weightOf, without, roundsFrom, planOf}
+use Rattle.plan.proofs.ZeroPlans.{zero-plan}
+use Rattle.campaign.specs.Record.{bitOf, fits, startRefusal, cleared, campaignRefusal, taking}
+use Rattle.campaign.specs.Calls.{started, made}
+use Rattle.demands.specs.Runs.{draws, lastRecord, used, overAccepted, unused}
+use Rattle.demands.specs.Examples.{examples, computed, ExamplesHold}
+use Rattle.demands.specs.Campaigns.{runs, saidOf}
+use Rattle.demands.specs.Slips.{SlipsShut, roundsOverCells, mended, drawsCountingAll}
+
+rows-hold : map (λ x. computed x (x .said)) examples ≡ map (λ x. x .said) examples
+unfolding planOf roundsFrom weightOf limitOf without tabulate sum least all total entryPlaces lines whole gap roundsTo nthRow nthColumn rank inOrder arrayOf firstOf isRounding firstRounding zipWith arrayFor checkOf tableRefusal due
+rows-hold = refl
+
+module _ (d : ℕ) (some : 1 ≤ d) (h : d ≤ 65535) where
+  taken : checkedNumber (checkOf 1 1 d ((1000 * d) ∷ [])) ≡ 0
+  unfolding checkOf tableRefusal due all
+  taken = simp (le-leb 1 d some, le-leb d 65535 h, le-leb (1000 * d) (1000 * d) (omega arith))
+
+  above : checkedNumber (checkOf 1 1 d ((1000 * d + 1) ∷ [])) ≡ 4
+  unfolding checkOf tableRefusal due all
+  above = simp (le-leb 1 d some, le-leb d 65535 h, lt-leb (1000 * d + 1) (1000 * d) (omega arith))
+
+pub examples-hold : ExamplesHold
+examples-hold = record { rows = rows-hold; zeros = zero-plan; cell-taken = taken; cell-above = above }
+
+pub runs-hold : map (λ r. saidOf (r .plan) (r .list)) runs ≡ map (λ r. r .said) runs
+unfolding draws lastRecord used overAccepted unused started made startRefusal cleared campaignRefusal taking fits bitOf sumTo arrayFor due answerOf after number decode headRight laidOut consistent tabulate sum all lines total whole roundsTo
+runs-hold = refl
+
+pub slips-shut : SlipsShut
+unfolding roundsOverCells mended drawsCountingAll draws lastRecord overAccepted made campaignRefusal taking fits bitOf sumTo arrayFor due answerOf after encode head contentsEntry bytes joinTo number decode headRight laidOut consistent planOf roundsFrom weightOf limitOf without tabulate sum least all total entryPlaces lines whole gap roundsTo nthRow nthColumn rank inOrder arrayOf firstOf isRounding firstRounding zipWith
+slips-shut = record { right = refl; wrong = refl; mended-rounds = refl }

@@ -1,0 +1,14 @@
+-- `demands::claims` states what the laws of this folder prove.
+use Rattle.demands.proofs.Lowests.{each-refuses}
+use Rattle.demands.proofs.Campaigns.{claim}
+use Rattle.demands.proofs.Sentences.{few-entries, whole-limit}
+use Rattle.demands.proofs.Belongings.{belonging}
+use Rattle.demands.proofs.Examples.{examples-hold, runs-hold, slips-shut}
+use Rattle.demands.proofs.claims.Statement.{statement}
+use Rattle.demands.proofs.claims.Tie as tie
+
+returns : tie.Need-returns
+returns c = (each-refuses, (claim, (few-entries, (whole-limit, (belonging, (examples-hold, (runs-hold, slips-shut)))))))
+
+pub claims-spec : {M : Type 1} → statement M
+claims-spec = tie.close (tie.spec returns)

@@ -1,0 +1,84 @@
+-- What every run of a campaign is held to (01, "What demand 3 speaks of"). `started` and `made` are the definitions that the code of a start and of a
+-- campaign draw is equated with. Assumes nothing.
+use mathlib.Core.Path.{_≡_}
+use mathlib.Core.Bool.{true, cond}
+use mathlib.Core.List.{List, [], _∷_, _++_, map, List·Memᴰ as Member}
+use mathlib.Core.Option.{none}
+use Prim.Native.Nat.{ℕ, _+_, _-_, _*_, _<_, _≤_}
+use lib.ListN.{length, getD, drop}
+use lib.Dec.{leb, ltb}
+use Rattle.base.specs.Buffers.{written}
+use Rattle.table.specs.Table.{total}
+use Rattle.table.specs.Whole.{down, up}
+use Rattle.refusals.specs.Answer.{answerNumber}
+use Rattle.refusals.specs.declared.Answer.the-variants.{Done, Refused}
+use Rattle.refusals.specs.declared.Refusal.{Refusal}
+use Rattle.form.specs.Plan.{Plan, cellCount}
+use Rattle.form.specs.Form.{decode}
+use Rattle.opening.specs.Open.{heldTo, Opens, drawRefusal, drawnArray}
+use Rattle.campaign.specs.Record.{CampaignRecord, bitOf, bitBytes, roomFor}
+use Rattle.campaign.specs.Calls.{started, Asked, Made}
+use Rattle.demands.specs.Runs.{draws, lastRecord, used, accepted, drawn, unused}
+
+-- "A draw returns 7 if its buffer is too short for the array, else 8 if its number is not below D, else 10 if it is used; otherwise it is accepted.": 0
+abbrev pub numberDue : Plan → List Made → Asked → ℕ
+numberDue p earlier x =
+    cond (ltb (length (x .buffer)) (cellCount p)) 7
+    (cond (leb (p .denominator) (x .number)) 8
+    (cond (used earlier (x .number)) 10 0))
+
+-- what holds of one draw of the list, with the draws before it
+pub record DrawClaim (b : List ℕ) (earlier : List Made) (t : Made) : Type 0 where
+  -- who is accepted
+  pub number : answerNumber (t .answer) ≡ numberDue (decode b) earlier (t .asked)
+  -- an accepted draw wrote the array that belongs to its number, which is what the plain draw gives, and left its buffer's rest
+  pub wrote : t .answer ≡ Done
+      → (drawRefusal b (t .asked .number) (length (t .asked .buffer)) ≡ none) × (t .result ≡ written (drawnArray b (t .asked .number)) (t .asked .buffer))
+  -- a refused draw left buffer and record as they were
+  pub kept : (x : Refusal) → t .answer ≡ Refused x → (t .result ≡ t .asked .buffer) × (t .left ≡ t .given)
+
+-- "After the list the count is m, the bits set are those of the used numbers, spare bits are zero, the tally is what was drawn, cell by cell,
+-- and the record beyond these is as before the start.": with the record s₀ before the start, and the record `end` after the list
+pub record RecordClaim (p : Plan) (s₀ : CampaignRecord) (run : List Made) (end : CampaignRecord) : Type 0 where
+  pub count : end .taken ≡ accepted run
+  pub bits : (d : ℕ) → d < p .denominator → bitOf (end .bits) d ≡ cond (used run d) 1 0
+  pub spare : (d : ℕ) → p .denominator ≤ d → d < 8 * bitBytes (p .denominator) → bitOf (end .bits) d ≡ 0
+  pub tally : (i : ℕ) → i < cellCount p → getD (end .tally) i 0 ≡ drawn p run (i ∷ [])
+  pub bits-beyond : drop (bitBytes (p .denominator)) (end .bits) ≡ drop (bitBytes (p .denominator)) (s₀ .bits)
+  pub tally-beyond : drop (cellCount p) (end .tally) ≡ drop (cellCount p) (s₀ .tally)
+  pub bits-length : length (end .bits) ≡ length (s₀ .bits)
+  pub tally-length : length (end .tally) ≡ length (s₀ .tally)
+
+-- what holds of a start on bytes b that open, with a record s₀, and then the list l of draws
+pub record RunClaim (b : List ℕ) (s₀ : CampaignRecord) (l : List Asked) (p : Plan) (run : List Made) (end : CampaignRecord) : Type 0 where
+  -- "A start on a plan that opens, with a record long enough, is accepted, whatever the record held before."
+  pub start : started b s₀ .answer ≡ Done
+  -- the draws made are those asked for, each as claimed
+  pub asked : map (λ t. t .asked) run ≡ l
+  pub each : (earlier : List Made) (t : Made) (later : List Made) → run ≡ earlier ++ (t ∷ later) → DrawClaim b earlier t
+  -- drawn plus what the unused numbers hold is the planned sum: for any places, so for every cell, row and column
+  pub balance : (s : List ℕ) → drawn p run s + unused p run s ≡ total (p .cells) s
+  -- with m accepted, drawn lies between m times the expected count rounded down and m times that rounded up, for each entry that a plan is held to
+  pub bounds : (s : List ℕ) → Member s (heldTo (p .rows) (p .columns))
+      → (accepted run * down (p .denominator) (total (p .cells) s) ≤ drawn p run s)
+      × (drawn p run s ≤ accepted run * up (p .denominator) (total (p .cells) s))
+  -- beyond 01: m is at most D, and what the D − m unused numbers hold lies between D − m times the one and D − m times the other
+  pub at-most : accepted run ≤ p .denominator
+  pub reserve : (s : List ℕ) → Member s (heldTo (p .rows) (p .columns))
+      → ((p .denominator - accepted run) * down (p .denominator) (total (p .cells) s) ≤ unused p run s)
+      × (unused p run s ≤ (p .denominator - accepted run) * up (p .denominator) (total (p .cells) s))
+  -- when all numbers are used, drawn is exactly the planned sum
+  pub complete : ((d : ℕ) → d < p .denominator → used run d ≡ true) → (s : List ℕ) → drawn p run s ≡ total (p .cells) s
+  pub after-list : RecordClaim p s₀ run end
+
+-- what every list of draws on the bytes b is held to, after a start with any record long enough
+abbrev pub Held : List ℕ → Type 0
+Held b =
+    (s₀ : CampaignRecord) (l : List Asked) → roomFor (decode b) s₀ ≡ true
+    → let s = started b s₀ .left in
+    let run = draws b s l in
+    RunClaim b s₀ l (decode b) run (lastRecord s run)
+
+-- "It is a single claim about the list": for any bytes that open
+abbrev pub Claim : Type 0
+Claim = (b : List ℕ) → Opens b → Held b

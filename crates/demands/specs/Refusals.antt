@@ -1,0 +1,32 @@
+-- Which refusal a call returns (01, "Turned back"): demand 1's "go unrefused where the papers say to refuse it", for each list of conditions. Assumes nothing.
+use mathlib.Core.Path.{_≡_}
+use mathlib.Core.Bool.{true}
+use mathlib.Core.List.{List, List·Memᴰ as Member}
+use mathlib.Core.Option.{Option, some, none}
+use Prim.Native.Nat.{ℕ, _≤_}
+use Rattle.refusals.specs.Numbers.{numberOf}
+use Rattle.refusals.specs.declared.Refusal.{Refusal}
+use Rattle.refusals.specs.Due.{Test, refuse, noneApplies}
+use Rattle.rounding.specs.Call.{roundTests, roundRefusal}
+use Rattle.plan.specs.Call.{planTests, planRefusal}
+use Rattle.opening.specs.Open.{openTests, openRefusal, drawTests, drawRefusal}
+use Rattle.campaign.specs.Record.{CampaignRecord, startTests, startRefusal, campaignTests, campaignRefusal}
+
+-- of the conditions of a list, that of x holds, and no condition with a lower number does
+pub record Lowest (l : List Test) (x : Refusal) : Type 0 where
+  pub applies : Member (refuse x true) l
+  pub lowest : (y : Refusal) → Member (refuse y true) l → numberOf x ≤ numberOf y
+
+-- "The lowest number that applies is returned, and never when its condition is false.": and where nothing is returned, no condition holds
+pub record Refuses (l : List Test) (o : Option Refusal) : Type 0 where
+  pub refused : (x : Refusal) → o ≡ some x → Lowest l x
+  pub accepted : o ≡ none → noneApplies l ≡ true
+
+-- so of every call, whatever it is lent
+pub record EachRefuses : Type 0 where
+  pub rounding : (r c d : ℕ) (g : List ℕ) (room : ℕ) → Refuses (roundTests r c d g room) (roundRefusal r c d g room)
+  pub plan : (r c d : ℕ) (g : List ℕ) (room : ℕ) → Refuses (planTests r c d g room) (planRefusal r c d g room)
+  pub opening : (b : List ℕ) → Refuses (openTests b) (openRefusal b)
+  pub draw : (b : List ℕ) (d room : ℕ) → Refuses (drawTests b d room) (drawRefusal b d room)
+  pub start : (b : List ℕ) (s : CampaignRecord) → Refuses (startTests b s) (startRefusal b s)
+  pub campaign-draw : (b : List ℕ) (d : ℕ) (s : CampaignRecord) (room : ℕ) → Refuses (campaignTests b d s room) (campaignRefusal b d s room)

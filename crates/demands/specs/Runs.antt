@@ -1,0 +1,48 @@
+-- A run of a campaign, by the draws that were made (01, "What demand 3 speaks of"). Assumes nothing.
+use mathlib.Core.Bool.{Bool, true, false, cond, _&&_, _||_}
+use mathlib.Core.List.{List, [], _∷_, map}
+use Prim.Native.Nat.{ℕ}
+use lib.ListN.{take}
+use lib.Dec.{eqb}
+use Rattle.base.specs.Lists.{sum, sumTo}
+use Rattle.table.specs.Table.{total}
+use Rattle.refusals.specs.declared.Answer.{Answer}
+use Rattle.refusals.specs.declared.Answer.the-variants.{Done, Refused}
+use Rattle.form.specs.Plan.{Plan, cellCount, arrayFor}
+use Rattle.campaign.specs.Record.{CampaignRecord}
+use Rattle.campaign.specs.Calls.{Asked, Made, made}
+
+-- "a list of campaign draws of any length, refused ones included. Each draw gets the plan's unchanged bytes, the record as the call before it left it"
+unfoldable pub draws : List ℕ → CampaignRecord → List Asked → List Made
+draws b s [] = []
+draws b s (x ∷ l) = made b s x ∷ draws b (made b s x .left) l
+
+-- the record as the last call left it, after a start that left s
+unfoldable pub lastRecord : CampaignRecord → List Made → CampaignRecord
+lastRecord s [] = s
+lastRecord s (t ∷ l) = lastRecord (t .left) l
+
+abbrev pub isDone : Answer → Bool
+isDone Done = true
+isDone (Refused x) = false
+
+-- "A number below D is used from its accepted draw on, and unused until then"
+unfoldable pub used : List Made → ℕ → Bool
+used [] d = false
+used (t ∷ l) d = isDone (t .answer) && eqb (t .asked .number) d || used l d
+
+-- a number of each accepted draw, added up
+unfoldable pub overAccepted : (Made → ℕ) → List Made → ℕ
+overAccepted f l = sum (map (λ t. cond (isDone (t .answer)) (f t) 0) l)
+
+-- "m is how many draws were accepted"
+abbrev pub accepted : List Made → ℕ
+accepted l = overAccepted (λ t. 1) l
+
+-- "Drawn is the sum of the arrays that accepted draws wrote out, for a row or column the sum over its cells": for any places
+abbrev pub drawn : Plan → List Made → List ℕ → ℕ
+drawn p l s = overAccepted (λ t. total (take (cellCount p) (t .result)) s) l
+
+-- "the unused numbers hold the sum of the arrays that belong to them"
+unfoldable pub unused : Plan → List Made → List ℕ → ℕ
+unused p l s = sumTo (p .denominator) (λ d. cond (used l d) 0 (total (arrayFor (p .arrays) d) s))
