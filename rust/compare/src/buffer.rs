@@ -45,8 +45,13 @@ impl<T: Item> Buffer<T> {
 
     /// A buffer that begins with these items and lends these alone.
     pub fn holding(generator: &mut Generator, items: &[T]) -> Buffer<T> {
-        let mut buffer = Buffer::random(generator, items.len());
-        buffer.lent_mut()[..].copy_from_slice(items);
+        Buffer::random(generator, items.len()).with(items)
+    }
+
+    /// The same buffer with as many items in place of those that it lends.
+    pub fn with(&self, items: &[T]) -> Buffer<T> {
+        let mut buffer = self.clone();
+        buffer.lent_mut().copy_from_slice(items);
         buffer
     }
 

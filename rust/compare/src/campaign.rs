@@ -1,11 +1,13 @@
 //! The start and the campaign draw.
 
+mod literal;
+
 use compare::buffer::{enough, lengths_around, Buffer};
-use compare::cases::{number_of, Call, Calls, Difference, Kind, Named};
+use compare::cases::{Call, Calls, Difference, Kind, Named};
 use compare::damage::good_and_damaged;
 use compare::plans::{plan_of, random_opening_plan, random_plan_up_to};
 use compare::records::{damage, Record};
-use reference::{bytes_of_bits, encode, Plan};
+use reference::{bytes_of_bits, encode, number_of, Plan};
 use tables::{evenly_spread, Generator, GivenTable};
 
 pub const KINDS: &[Kind] = &[
@@ -36,10 +38,24 @@ pub const KINDS: &[Kind] = &[
     },
 ];
 
-pub const NAMED: &[Named] = &[Named {
-    name: "campaign-over-one-number",
-    compare: over_one_number,
-}];
+pub const NAMED: &[Named] = &[
+    Named {
+        name: "campaign-over-one-number",
+        compare: over_one_number,
+    },
+    Named {
+        name: "start-literal",
+        compare: literal::starts,
+    },
+    Named {
+        name: "campaign-literal",
+        compare: literal::draws,
+    },
+    Named {
+        name: "campaign-literal-runs",
+        compare: literal::runs,
+    },
+];
 
 #[derive(Clone, Debug, PartialEq)]
 struct Start {

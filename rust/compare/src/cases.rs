@@ -1,6 +1,6 @@
-use reference::Refusal;
 use std::collections::BTreeMap;
 use std::fmt::{self, Debug, Display};
+use tables::literal::numbered;
 use tables::Generator;
 
 /// A kind of cases, each of them made from a seed.
@@ -37,11 +37,12 @@ impl Difference {
         let text = format!("difference in {name}{seed}\n{}", self.text);
         Difference { text }
     }
-}
 
-/// The number that a call without a result returns.
-pub fn number_of(answer: Result<(), Refusal>) -> u32 {
-    answer.map_or_else(Refusal::number, |()| 0)
+    /// The same difference with the row of the table that it was found in.
+    fn in_row(self, number: usize, row: &impl Debug) -> Difference {
+        let text = format!("row {number}: {row:?}\n{}", self.text);
+        Difference { text }
+    }
 }
 
 /// The seed of a case, from the name of its kind and its number.
@@ -62,8 +63,19 @@ pub struct Compared<C> {
     pub after: C,
 }
 
-/// The least length of a stored plan. A length counts as accepted, as 0 does.
+/// The least length of a stored plan.
 const LEAST_LENGTH: u32 = 30;
+
+impl<C> Compared<C> {
+    /// The refusal, or 0 for a call that was accepted, with or without a length.
+    pub fn refusal(&self) -> u32 {
+        if self.answer < LEAST_LENGTH {
+            self.answer
+        } else {
+            0
+        }
+    }
+}
 
 impl Calls {
     /// Makes a call to both. The answer, what is lent and what stands after it must
@@ -81,9 +93,9 @@ impl Calls {
             );
             return Err(Difference { text });
         }
-        let refusal = if answer < LEAST_LENGTH { answer } else { 0 };
-        *self.by_answer.entry(refusal).or_default() += 1;
-        Ok(Compared { answer, after })
+        let compared = Compared { answer, after };
+        *self.by_answer.entry(compared.refusal()).or_default() += 1;
+        Ok(compared)
     }
 
     /// The same for a call whose answer the papers state.
@@ -94,6 +106,30 @@ impl Calls {
         })?;
         Ok(after)
     }
+
+    /// The same for a call of which the papers also state what it leaves.
+    pub fn compare_left<C: Call>(
+        &mut self,
+        call: &C,
+        stated: u32,
+        left: &C,
+    ) -> Result<(), Difference> {
+        let after = self.compare_stated(call, stated)?;
+        require(after == *left, || {
+            format!("before: {call:?}\nboth leave: {after:?}\nthe papers: {left:?}\n")
+        })
+    }
+}
+
+/// Goes over the rows of a table of literal cases. A difference names its row.
+pub fn over_rows<Row: Debug>(
+    rows: &[Row],
+    mut compare: impl FnMut(&Row) -> Result<(), Difference>,
+) -> Result<(), Difference> {
+    for (number, row) in numbered(rows) {
+        compare(row).map_err(|difference| difference.in_row(number, row))?;
+    }
+    Ok(())
 }
 
 /// A difference from what the papers state, unless the condition holds.

@@ -1,10 +1,12 @@
 //! The draw call.
 
+mod literal;
+
 use compare::buffer::{enough, lengths_around, Buffer};
-use compare::cases::{number_of, require, Call, Calls, Difference, Kind, Named};
+use compare::cases::{require, Call, Calls, Difference, Kind, Named};
 use compare::damage::good_and_damaged;
 use compare::plans::{random_opening_plan, stated_plan};
-use reference::{encode, Plan};
+use reference::{encode, number_of, Plan};
 use tables::{papers, Generator};
 
 pub const KINDS: &[Kind] = &[
@@ -20,10 +22,20 @@ pub const KINDS: &[Kind] = &[
     },
 ];
 
-pub const NAMED: &[Named] = &[Named {
-    name: "draw-listing",
-    compare: listing,
-}];
+pub const NAMED: &[Named] = &[
+    Named {
+        name: "draw-listing",
+        compare: listing,
+    },
+    Named {
+        name: "draw-literal",
+        compare: literal::calls,
+    },
+    Named {
+        name: "draw-literal-plans",
+        compare: literal::stored_plans,
+    },
+];
 
 #[derive(Clone, Debug, PartialEq)]
 struct Draw {
@@ -99,22 +111,43 @@ fn refusals(generator: &mut Generator, calls: &mut Calls) -> Result<(), Differen
     Ok(())
 }
 
+/// The array of so many cells that both write for a number, which is accepted.
+pub fn array(
+    calls: &mut Calls,
+    plan: &[u8],
+    number: u32,
+    cells: usize,
+) -> Result<Vec<u16>, Difference> {
+    let generator = &mut Generator::new(0);
+    let call = Draw {
+        plan: Buffer::holding(generator, plan),
+        number,
+        counts: Buffer::random(generator, cells),
+    };
+    let found = calls.compare_stated(&call, 0)?;
+    Ok(found.counts.lent().to_vec())
+}
+
+/// A number with the array that the papers state for it.
+pub fn stated_array(
+    calls: &mut Calls,
+    plan: &[u8],
+    number: u32,
+    stated: &[u64],
+) -> Result<(), Difference> {
+    let found = array(calls, plan, number, stated.len())?;
+    let counts = found.iter().map(|&count| u64::from(count));
+    require(counts.eq(stated.iter().copied()), || {
+        format!("draw {number} of {plan:?}\nboth write {found:?}, the papers {stated:?}\n")
+    })
+}
+
 /// The listing's numbers with the arrays that they belong to.
 fn listing(calls: &mut Calls) -> Result<(), Difference> {
-    let generator = &mut Generator::new(0);
     let plan = stated_plan(papers::listing());
+    let bytes = encode(&plan);
     for (number, array) in papers::LISTING_DRAWS.into_iter().enumerate() {
-        let call = Draw {
-            plan: Buffer::holding(generator, &encode(&plan)),
-            number: number as u32,
-            counts: Buffer::random(generator, 4),
-        };
-        let found = calls.compare_stated(&call, 0)?;
-        let counts = found.counts.lent().iter().map(|&count| u64::from(count));
-        let stated = &plan.arrays[array].counts;
-        require(counts.eq(stated.iter().copied()), || {
-            format!("{found:?}\nthe papers say {stated:?}\n")
-        })?;
+        stated_array(calls, &bytes, number as u32, &plan.arrays[array].counts)?;
     }
     Ok(())
 }

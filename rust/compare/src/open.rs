@@ -1,12 +1,14 @@
 //! The opening call.
 
+mod literal;
+
 use compare::buffer::Buffer;
-use compare::cases::{number_of, Call, Calls, Difference, Kind, Named};
+use compare::cases::{Call, Calls, Difference, Kind, Named};
 use compare::damage::{change_field, fields};
 use compare::plans::{
     exchange, merge, move_units, plan_of, random_plan, split, split_fully, split_off, stated_plan,
 };
-use reference::{encode, Plan, Table};
+use reference::{encode, number_of, Plan, Table};
 use tables::papers::{self, Example};
 use tables::Generator;
 
@@ -76,6 +78,10 @@ pub const NAMED: &[Named] = &[
     Named {
         name: "open-grand-total-not-kept",
         compare: |calls| stated(calls, papers::grand_total_not_kept(), 0),
+    },
+    Named {
+        name: "open-literal",
+        compare: literal::plans,
     },
 ];
 

@@ -1,5 +1,7 @@
 //! The plan call.
 
+mod literal;
+
 use compare::buffer::{enough, lengths_around, Buffer};
 use compare::cases::{require, Call, Calls, Difference, Kind, Named};
 use compare::lent_tables::{turned_back, LentTable};
@@ -76,6 +78,18 @@ pub const NAMED: &[Named] = &[
     Named {
         name: "plan-document-004-problem-2.4",
         compare: |calls| accepted(calls, &papers::problem_2_4()),
+    },
+    Named {
+        name: "plan-literal",
+        compare: literal::calls,
+    },
+    Named {
+        name: "plan-literal-checks",
+        compare: literal::checks,
+    },
+    Named {
+        name: "plan-literal-examples",
+        compare: literal::examples,
     },
 ];
 

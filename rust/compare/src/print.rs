@@ -1,5 +1,7 @@
 //! The printing program, run on texts.
 
+mod literal;
+
 use compare::cases::{require, Call, Calls, Difference, Kind, Named};
 use std::io::Write;
 use std::process::{Command, Stdio};
@@ -30,6 +32,14 @@ pub const NAMED: &[Named] = &[
     Named {
         name: "print-longest-texts",
         compare: longest_texts,
+    },
+    Named {
+        name: "print-literal",
+        compare: literal::outputs,
+    },
+    Named {
+        name: "print-literal-texts",
+        compare: literal::texts,
     },
 ];
 

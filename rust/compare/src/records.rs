@@ -2,7 +2,7 @@
 
 use crate::buffer::{enough, Buffer};
 use reference::{bytes_of_bits, Plan};
-use tables::Generator;
+use tables::{literal, Generator};
 
 /// A campaign record.
 #[derive(Clone, Debug, PartialEq)]
@@ -19,6 +19,20 @@ impl Record {
             taken: generator.bits() as u32,
             bits: Buffer::random(generator, bits),
             tally: Buffer::random(generator, tally),
+        }
+    }
+
+    /// A record that holds and lends just this.
+    pub fn holding(generator: &mut Generator, record: &literal::campaign::Record) -> Record {
+        Record::random(generator, record.bits.len(), record.tally.len()).with(record)
+    }
+
+    /// The same record with these contents, which are as long.
+    pub fn with(&self, record: &literal::campaign::Record) -> Record {
+        Record {
+            taken: record.taken,
+            bits: self.bits.with(&record.bits),
+            tally: self.tally.with(&record.tally),
         }
     }
 

@@ -1,8 +1,11 @@
 //! The rounding call.
 
+mod literal;
+
 use compare::buffer::{lengths_around, Buffer};
-use compare::cases::{number_of, require, Call, Calls, Difference, Kind, Named};
+use compare::cases::{require, Call, Calls, Difference, Kind, Named};
 use compare::lent_tables::{turned_back, LentTable};
+use reference::number_of;
 use tables::papers::{self, Example};
 use tables::{all_sizes, random_table, random_table_of, Generator, GivenTable};
 
@@ -56,6 +59,14 @@ pub const NAMED: &[Named] = &[
     Named {
         name: "round-document-004-problem-2.4",
         compare: |calls| accepted(calls, &papers::problem_2_4()),
+    },
+    Named {
+        name: "round-literal",
+        compare: literal::calls,
+    },
+    Named {
+        name: "round-literal-checks",
+        compare: literal::checks,
     },
 ];
 

@@ -15,7 +15,7 @@ pub enum Refusal {
     LargeCell = 4,
     /// A stored plan whose form, zero field, sizes, offsets or length are wrong.
     Layout = 5,
-    /// A stored plan that does not meet another condition of opening.
+    /// A stored plan with a cell above 1000 times the denominator, or that does not meet another condition of opening.
     Content = 6,
     /// A lent buffer shorter than its result or record.
     Buffer = 7,

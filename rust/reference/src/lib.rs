@@ -12,7 +12,7 @@ mod text;
 
 pub use campaign::{bytes_of_bits, campaign_draw, start};
 pub use plan::{plan, plan_of, Array, Plan};
-pub use refusal::Refusal;
+pub use refusal::{number_of, Refusal};
 pub use rounding::{first_rounding, is_controlled_rounding, round, rounds_to};
 pub use stored::{draw, encode, open, stored_length};
 pub use table::{entries, Table};

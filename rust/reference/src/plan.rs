@@ -106,3 +106,18 @@ fn limit(weight: u64, entry: u64, count: u64) -> u64 {
         entry - (count - 1) * weight
     }
 }
+
+#[cfg(test)]
+mod tests {
+    use super::limit;
+    use tables::literal::numbered;
+    use tables::literal::plan::LIMITS;
+
+    #[test]
+    fn literal_limits() {
+        for (number, row) in numbered(LIMITS) {
+            let found = limit(row.weight, row.entry, row.count);
+            assert_eq!(found, row.limit, "row {number}: {row:?}");
+        }
+    }
+}

@@ -28,3 +28,8 @@ impl Refusal {
         self as u32
     }
 }
+
+/// The number that a call without a result returns.
+pub fn number_of(answer: Result<(), Refusal>) -> u32 {
+    answer.map_or_else(Refusal::number, |()| 0)
+}

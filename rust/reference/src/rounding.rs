@@ -30,7 +30,8 @@ pub fn rounds_to(weight: u64, entry: u64, count: u64) -> bool {
     Range::of(weight, entry).contains(count)
 }
 
-/// Whether every entry of the array, totals included, rounds the table's entry.
+/// Whether the array has one count a cell, and every entry of it, totals included,
+/// rounds the table's entry.
 pub fn is_controlled_rounding(
     rows: usize,
     columns: usize,
@@ -38,6 +39,9 @@ pub fn is_controlled_rounding(
     cells: &[u64],
     counts: &[u64],
 ) -> bool {
+    if counts.len() != cells.len() {
+        return false;
+    }
     let of_table = entries(rows, columns, cells);
     let of_array = entries(rows, columns, counts);
     of_table
@@ -119,4 +123,21 @@ fn array_exists(rows: usize, columns: usize, ranges: &[Range]) -> bool {
         })
         .collect();
     circulation_exists(rows + columns + 2, &edges)
+}
+
+#[cfg(test)]
+mod tests {
+    use super::{rounds_to, Range};
+    use tables::literal::check::ROUNDED;
+    use tables::literal::numbered;
+
+    #[test]
+    fn literal_entries_are_rounded() {
+        for (number, row) in numbered(ROUNDED) {
+            let Range { down, up } = Range::of(10, row.entry);
+            let counts = [0, 1, 2, 3, 4].map(|count| rounds_to(10, row.entry, count));
+            let said = (row.low, row.high, row.counts);
+            assert_eq!((down, up, counts), said, "row {number}: {row:?}");
+        }
+    }
 }

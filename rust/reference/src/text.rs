@@ -61,3 +61,27 @@ fn line(numbers: &[u64]) -> String {
     let words: Vec<String> = numbers.iter().map(u64::to_string).collect();
     words.join(" ") + "\n"
 }
+
+#[cfg(test)]
+mod tests {
+    use super::{line, read_numbers};
+    use tables::literal::numbered;
+    use tables::literal::text::{parses, NUMERALS};
+
+    #[test]
+    fn literal_texts_are_read_or_refused() {
+        for (number, row) in numbered(&parses()) {
+            let found = read_numbers(row.text.as_bytes());
+            assert_eq!(found, row.numbers, "row {number}: {row:?}");
+        }
+    }
+
+    #[test]
+    fn literal_numbers_are_written() {
+        for (number, row) in numbered(NUMERALS) {
+            let (value, digits) = *row;
+            let found = line(&[u64::from(value)]);
+            assert_eq!(found, digits.to_string() + "\n", "row {number}: {row:?}");
+        }
+    }
+}

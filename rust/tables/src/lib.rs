@@ -1,6 +1,7 @@
-//! Tables for tests, comparison and benchmark: those of the papers, and random ones
-//! made from a seed.
+//! Tables for tests, comparison and benchmark: those of the papers, random ones made
+//! from a seed, and literal cases of the calls.
 
+pub mod literal;
 mod numbers;
 pub mod papers;
 mod random;

@@ -6,13 +6,17 @@ use crate::GivenTable;
 pub type WeightedArrays = Vec<(u64, Vec<u64>)>;
 
 /// A table with weighted arrays that the papers state for it.
+#[derive(Clone, Debug)]
 pub struct Example {
     pub table: GivenTable,
     pub arrays: WeightedArrays,
 }
 
 impl Example {
-    fn new<const CELLS: usize>(table: GivenTable, arrays: &[(u64, [u64; CELLS])]) -> Example {
+    pub(crate) fn new<const CELLS: usize>(
+        table: GivenTable,
+        arrays: &[(u64, [u64; CELLS])],
+    ) -> Example {
         let arrays = arrays
             .iter()
             .map(|(weight, counts)| (*weight, counts.to_vec()))

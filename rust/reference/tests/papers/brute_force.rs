@@ -1,7 +1,8 @@
 //! Roundings and plans against a search through all arrays.
 
-use crate::samples::{accepted, table};
-use reference::{entries, first_rounding, plan_of, Table};
+use crate::samples::{accepted, planned_arrays, table};
+use reference::{entries, first_rounding, Table};
+use tables::papers::WeightedArrays;
 use tables::{papers, Generator};
 
 /// Each entry, in the words of the specification: over the weight, rounded down or
@@ -55,7 +56,7 @@ fn largest_weight(entries: &[u64], weight: u64, counts: &[u64]) -> u64 {
 }
 
 /// The plan by brute force: weights and counts.
-fn plan_by_brute_force(table: &Table) -> Vec<(u64, Vec<u64>)> {
+fn plan_by_brute_force(table: &Table) -> WeightedArrays {
     let (rows, columns) = (table.rows, table.columns);
     let mut cells = table.cells.clone();
     let mut left = table.denominator;
@@ -74,11 +75,7 @@ fn plan_by_brute_force(table: &Table) -> Vec<(u64, Vec<u64>)> {
 }
 
 fn assert_same_as_brute_force(table: &Table) {
-    let planned: Vec<(u64, Vec<u64>)> = plan_of(table)
-        .arrays
-        .into_iter()
-        .map(|array| (array.weight, array.counts))
-        .collect();
+    let planned = planned_arrays(table);
     assert_eq!(planned, plan_by_brute_force(table), "{table:?}");
 }
 

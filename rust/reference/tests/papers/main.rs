@@ -1,9 +1,11 @@
 //! The reference against the papers: their examples, their definitions by brute
-//! force over all arrays of small tables, and their refusals.
+//! force over all arrays of small tables, their refusals, and the tables of literal
+//! cases.
 
 mod brute_force;
 mod campaigns;
 mod examples;
+mod literal;
 mod refusals;
 mod samples;
 mod stored_plans;

@@ -1,7 +1,7 @@
 //! Tables and plans that several tests use.
 
 use reference::{encode, plan_of, Plan, Table};
-use tables::papers::{self, Example};
+use tables::papers::{self, Example, WeightedArrays};
 use tables::GivenTable;
 
 /// A table that must be accepted.
@@ -27,4 +27,13 @@ pub fn listed_plan() -> Plan {
 /// The stored plan of a table.
 pub fn stored_plan(table: &Table) -> Vec<u8> {
     encode(&plan_of(table))
+}
+
+/// The weights and counts of a table's plan.
+pub fn planned_arrays(table: &Table) -> WeightedArrays {
+    plan_of(table)
+        .arrays
+        .into_iter()
+        .map(|array| (array.weight, array.counts))
+        .collect()
 }

@@ -1,8 +1,10 @@
 //! What the printing program reads and prints.
 
+use crate::literal::assert_rows;
 use reference::print_plan;
 use std::io::Write;
 use std::process::{Command, Stdio};
+use tables::literal::text::OUTPUTS;
 
 const LISTING: &str = "2 2 10 4\n2 0 0 0 1\n1 0 0 1 1\n4 0 1 1 0\n3 1 0 0 1\n";
 const REFUSED: &str = "refused text\n";
@@ -10,6 +12,13 @@ const REFUSED: &str = "refused text\n";
 #[test]
 fn the_listing_is_printed() {
     assert_eq!(print_plan(b"2 2 10 3 4 5 6"), LISTING);
+}
+
+#[test]
+fn literal_texts_are_printed() {
+    assert_rows(OUTPUTS, |row| {
+        (print_plan(row.text.as_bytes()), row.prints.to_string())
+    });
 }
 
 #[test]

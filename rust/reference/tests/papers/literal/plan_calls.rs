@@ -1,0 +1,35 @@
+//! Stored plans: what they hold, which of them open, and draws.
+
+use super::assert_rows;
+use crate::samples::stated_plan;
+use reference::{encode, number_of};
+use tables::literal::{draw, open, stored};
+
+#[test]
+fn stored_plans_hold_what_is_said() {
+    assert_rows(&stored::stored(), |row| {
+        let plan = stated_plan(row.plan.clone());
+        let found = (reference::open(row.bytes), encode(&plan));
+        (found, (Ok(plan), row.bytes.to_vec()))
+    });
+}
+
+#[test]
+fn plans_open_or_not() {
+    assert_rows(&open::cases(), |row| {
+        let answer = reference::open(&row.bytes).map(drop);
+        (number_of(answer), row.number)
+    });
+}
+
+#[test]
+fn draws() {
+    assert_rows(&draw::calls(), |row| {
+        let mut counts = row.buffer.clone();
+        let answer = reference::draw(&row.given.plan, row.given.number, &mut counts);
+        (
+            (number_of(answer), counts),
+            (row.number, row.result.clone()),
+        )
+    });
+}

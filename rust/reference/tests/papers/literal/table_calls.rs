@@ -1,0 +1,88 @@
+//! Tables: their check, controlled roundings, the calls "rounding" and "plan", and the
+//! examples of 01.
+
+use super::assert_rows;
+use crate::samples::{accepted, planned_arrays, stored_plan};
+use reference::{draw, is_controlled_rounding, number_of, Refusal, Table};
+use tables::literal::examples::{self, Row, Said};
+use tables::literal::{check, plan, round};
+use tables::GivenTable;
+
+/// The number that a table's check gives.
+fn checked(given: &GivenTable) -> u32 {
+    let table = Table::accept(given.rows, given.columns, given.denominator, &given.cells);
+    number_of(table.map(drop))
+}
+
+#[test]
+fn tables_are_checked() {
+    assert_rows(&check::cases(), |row| (checked(&row.table), row.number));
+}
+
+#[test]
+fn candidates_round_or_not() {
+    let cells = round::CELLS.map(u64::from);
+    assert_rows(round::CANDIDATES, |row| {
+        let rounds = is_controlled_rounding(2, 3, 10, &cells, row.counts);
+        (rounds, row.rounds)
+    });
+}
+
+#[test]
+fn calls_of_round() {
+    assert_rows(&round::calls(), |row| {
+        let (given, mut counts) = (&row.given, row.buffer.clone());
+        let answer = reference::round(
+            given.rows,
+            given.columns,
+            given.denominator,
+            &given.cells,
+            &mut counts,
+        );
+        (
+            (number_of(answer), counts),
+            (row.number, row.result.clone()),
+        )
+    });
+}
+
+#[test]
+fn calls_of_plan() {
+    assert_rows(&plan::calls(), |row| {
+        let (given, mut bytes) = (&row.given, row.buffer.clone());
+        let answer = reference::plan(
+            given.rows,
+            given.columns,
+            given.denominator,
+            &given.cells,
+            &mut bytes,
+        );
+        let number = answer.unwrap_or_else(Refusal::number);
+        ((number, bytes), (row.number, row.result.clone()))
+    });
+}
+
+/// The arrays that the numbers from 0 to D - 1 belong to.
+fn drawn(table: &Table) -> Vec<Vec<u64>> {
+    let plan = stored_plan(table);
+    let array = |number: u64| {
+        let mut counts = [8; 4];
+        draw(&plan, number as u32, &mut counts).expect("accepted");
+        counts.map(u64::from).to_vec()
+    };
+    (0..table.denominator).map(array).collect()
+}
+
+/// What an example says, by the reference.
+fn computed(row: &Row) -> Said {
+    match row.said {
+        Said::Listing(_) => Said::Listing(planned_arrays(&accepted(&row.table))),
+        Said::Arrays(_) => Said::Arrays(drawn(&accepted(&row.table))),
+        Said::Number(_) => Said::Number(checked(&row.table)),
+    }
+}
+
+#[test]
+fn examples_that_carry_proof() {
+    assert_rows(&examples::rows(), |row| (computed(row), row.said.clone()));
+}

@@ -1,0 +1,218 @@
+//! Starts and campaign draws (01, "Campaign record" and "Turned back").
+
+use super::open::one_cell;
+use super::stored::{changed, longer, SQUARE};
+use super::{FIVE, FOUR, ONE, THREE};
+
+/// A campaign record: the count of numbers taken, the bits and the tally.
+#[derive(Clone, Debug, PartialEq, Eq)]
+pub struct Record {
+    pub taken: u32,
+    pub bits: Vec<u8>,
+    pub tally: Vec<u32>,
+}
+
+pub(super) fn record(taken: u32, bits: &[u8], tally: &[u32]) -> Record {
+    Record {
+        taken,
+        bits: bits.to_vec(),
+        tally: tally.to_vec(),
+    }
+}
+
+/// A start with a plan and a record; the number that it returns, and the record as it
+/// leaves it.
+#[derive(Debug)]
+pub struct Start {
+    pub plan: Vec<u8>,
+    pub given: Record,
+    pub number: u32,
+    pub left: Record,
+}
+
+/// The same for a campaign draw, which asks for a number and lends a buffer.
+#[derive(Debug)]
+pub struct Draw {
+    pub plan: Vec<u8>,
+    pub given: Record,
+    pub asked: u32,
+    pub buffer: Vec<u16>,
+    pub number: u32,
+    pub left: Record,
+    pub result: Vec<u16>,
+}
+
+/// `SQUARE`, 01's third example, with a weight too large: it does not open, 6.
+fn heavy() -> Vec<u8> {
+    changed(SQUARE, &[(16, 2)])
+}
+
+/// One cell D over D, below 256, with its one array.
+pub(super) fn single(denominator: u8) -> Vec<u8> {
+    one_cell(denominator, denominator, denominator, 1)
+}
+
+/// A record of the square campaign before a start.
+pub fn any() -> Record {
+    record(7, &[255, 6], &[1, 2, 3, 4, 5])
+}
+
+/// After the start.
+fn fresh() -> Record {
+    record(0, &[0], &[0, 0, 0, 0])
+}
+
+/// After draw 0.
+fn one() -> Record {
+    record(1, &[1], &[0, 1, 1, 0])
+}
+
+/// After both draws.
+fn both() -> Record {
+    record(2, &[3], &[1, 1, 1, 1])
+}
+
+/// One that is too short in bits.
+fn no_bits() -> Record {
+    record(7, &[], &[1, 2, 3, 4])
+}
+
+/// One that is too short in tally.
+fn three_tallied() -> Record {
+    record(7, &[1], &[1, 2, 3])
+}
+
+/// One that does not fit.
+fn unfit() -> Record {
+    record(2, &[1], &[0, 1, 1, 0])
+}
+
+fn starts_with(plan: &[u8], given: Record, left: Record) -> Start {
+    Start {
+        plan: plan.to_vec(),
+        given,
+        number: 0,
+        left,
+    }
+}
+
+fn refuses_start(number: u32, plan: &[u8], given: Record) -> Start {
+    Start {
+        number,
+        ..starts_with(plan, given.clone(), given)
+    }
+}
+
+pub fn starts() -> Vec<Start> {
+    let (heavy, long) = (heavy(), longer(SQUARE));
+    let held = |bits: &[u8]| record(3, bits, &[9]);
+    vec![
+        // bytes and numbers beyond those needed stay
+        starts_with(SQUARE, any(), record(0, &[0, 6], &[0, 0, 0, 0, 5])),
+        // the bits of D 7 and 8 take one byte, those of D 9 two
+        starts_with(&single(7), held(&[255]), record(0, &[0], &[0])),
+        starts_with(&single(8), held(&[255]), record(0, &[0], &[0])),
+        starts_with(&single(9), held(&[255, 255]), record(0, &[0, 0], &[0])),
+        starts_with(&single(8), held(&[255, 255]), record(0, &[0, 255], &[0])),
+        // 5, 6 and 7 alone
+        refuses_start(5, &long, any()),
+        refuses_start(6, &heavy, any()),
+        refuses_start(7, SQUARE, no_bits()),
+        refuses_start(7, SQUARE, three_tallied()),
+        refuses_start(7, &single(9), held(&[255])),
+        // 5 and 6, 5 and 7, 6 and 7
+        refuses_start(5, &longer(&heavy), any()),
+        refuses_start(5, &long, no_bits()),
+        refuses_start(6, &heavy, three_tallied()),
+    ]
+}
+
+/// What an accepted draw leaves: the record, and the buffer for the array.
+type Left<'a> = (Record, &'a [u16]);
+
+fn draws_with(plan: &[u8], given: Record, asked: u32, buffer: &[u16], left: Left) -> Draw {
+    Draw {
+        plan: plan.to_vec(),
+        given,
+        asked,
+        buffer: buffer.to_vec(),
+        number: 0,
+        left: left.0,
+        result: left.1.to_vec(),
+    }
+}
+
+fn refuses(number: u32, plan: &[u8], given: Record, asked: u32, buffer: &[u16]) -> Draw {
+    Draw {
+        number,
+        ..draws_with(plan, given.clone(), asked, buffer, (given, buffer))
+    }
+}
+
+pub fn draws() -> Vec<Draw> {
+    [accepted_draws(), refused_draws(), doubly_refused_draws()]
+        .into_iter()
+        .flatten()
+        .collect()
+}
+
+fn accepted_draws() -> Vec<Draw> {
+    let beyond = record(0, &[0, 6], &[0, 0, 0, 0, 5]);
+    let taken_beyond = record(1, &[2, 6], &[1, 0, 0, 1, 5]);
+    let taken = |bits: &[u8]| record(1, bits, &[1]);
+    let twice = |bits: &[u8]| -> Left { (record(2, bits, &[2]), &[1]) };
+    vec![
+        draws_with(SQUARE, fresh(), 0, FIVE, (one(), &[0, 1, 1, 0, 8])),
+        draws_with(SQUARE, one(), 1, FOUR, (both(), &[1, 0, 0, 1])),
+        // bytes and numbers beyond those needed stay, and are no part of the record's fit
+        draws_with(SQUARE, beyond, 1, FOUR, (taken_beyond, &[1, 0, 0, 1])),
+        // number d in bit d mod 8, lowest first, of byte d / 8
+        draws_with(&single(7), taken(&[1]), 6, ONE, twice(&[65])),
+        draws_with(&single(8), taken(&[1]), 7, ONE, twice(&[129])),
+        draws_with(&single(9), taken(&[1, 0]), 8, ONE, twice(&[1, 1])),
+        draws_with(&single(9), taken(&[8, 0]), 1, ONE, twice(&[10, 0])),
+    ]
+}
+
+fn refused_draws() -> Vec<Draw> {
+    vec![
+        // 5, 6, 7 (bits, tally, array), 8, 9 (count, tally, a spare bit) and 10 alone
+        refuses(5, &longer(SQUARE), fresh(), 0, FOUR),
+        refuses(6, &heavy(), fresh(), 0, FOUR),
+        refuses(7, SQUARE, record(0, &[], &[0, 0, 0, 0]), 0, FOUR),
+        refuses(7, SQUARE, record(0, &[0], &[0, 0, 0]), 0, FOUR),
+        refuses(7, &single(9), record(0, &[0], &[0]), 0, ONE),
+        refuses(7, SQUARE, fresh(), 0, THREE),
+        refuses(8, SQUARE, one(), 2, FOUR),
+        refuses(9, SQUARE, unfit(), 1, FOUR),
+        refuses(9, SQUARE, record(1, &[1], &[0, 1, 1, 1]), 1, FOUR),
+        refuses(9, SQUARE, record(1, &[5], &[0, 1, 1, 0]), 1, FOUR),
+        refuses(9, &single(7), record(0, &[128], &[0]), 0, ONE),
+        refuses(9, &single(9), record(0, &[0, 2], &[0]), 0, ONE),
+        refuses(10, SQUARE, one(), 0, FOUR),
+    ]
+}
+
+fn doubly_refused_draws() -> Vec<Draw> {
+    let (heavy, long) = (heavy(), longer(SQUARE));
+    vec![
+        // 5 with 6, 7, 8, 9 and 10
+        refuses(5, &longer(&heavy), fresh(), 0, FOUR),
+        refuses(5, &long, fresh(), 0, THREE),
+        refuses(5, &long, fresh(), 2, FOUR),
+        refuses(5, &long, unfit(), 1, FOUR),
+        refuses(5, &long, one(), 0, FOUR),
+        // 6 with 7, 8, 9 and 10
+        refuses(6, &heavy, fresh(), 0, THREE),
+        refuses(6, &heavy, fresh(), 3, FOUR),
+        refuses(6, &heavy, unfit(), 1, FOUR),
+        refuses(6, &heavy, one(), 0, FOUR),
+        // 7 with 8, 9 and 10
+        refuses(7, SQUARE, fresh(), 2, THREE),
+        refuses(7, SQUARE, unfit(), 1, THREE),
+        refuses(7, SQUARE, one(), 0, THREE),
+        // 8 with 9, and 9 with 10
+        refuses(8, SQUARE, unfit(), 2, FOUR),
+        refuses(9, SQUARE, unfit(), 0, FOUR),
+    ]
+}

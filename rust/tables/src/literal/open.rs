@@ -1,0 +1,185 @@
+//! Plans that open, and for each condition of opening some that fail it (01, "Stored
+//! plan, form 1" and "Turned back").
+
+use super::stored::{changed, longer, RECURRING, SQUARE, WIDE};
+
+/// One cell 2 over D 3: equal arrays recur, in any order.
+#[rustfmt::skip]
+const THREE_ONES: &[u8] = &[
+    1, 0, 1, 1, 3, 0, 0, 0,
+    3, 0, 0, 0, 40, 0, 0, 0,
+    1, 0, 0, 0, 44, 0, 0, 0,
+    1, 0, 0, 0, 46, 0, 0, 0,
+    1, 0, 0, 0, 48, 0, 0, 0,
+    2, 0, 0, 0,
+    1, 0,
+    0, 0,
+    1, 0,
+];
+
+/// Two by two, D 2: every row and column keeps its bounds, and the grand total is 0 in
+/// one array and 2 in the other.
+#[rustfmt::skip]
+const SWINGING: &[u8] = &[
+    1, 0, 2, 2, 2, 0, 0, 0,
+    2, 0, 0, 0, 32, 0, 0, 0,
+    1, 0, 0, 0, 48, 0, 0, 0,
+    1, 0, 0, 0, 56, 0, 0, 0,
+    1, 0, 0, 0, 0, 0, 0, 0, 0, 0, 0, 0, 1, 0, 0, 0,
+    0, 0, 0, 0, 0, 0, 0, 0,
+    1, 0, 0, 0, 0, 0, 1, 0,
+];
+
+/// D 2, all cells 2: the cells vary though each is whole, rows and columns do not.
+#[rustfmt::skip]
+const CELLS_VARY: &[u8] = &[
+    1, 0, 2, 2, 2, 0, 0, 0,
+    2, 0, 0, 0, 32, 0, 0, 0,
+    1, 0, 0, 0, 48, 0, 0, 0,
+    1, 0, 0, 0, 56, 0, 0, 0,
+    2, 0, 0, 0, 2, 0, 0, 0, 2, 0, 0, 0, 2, 0, 0, 0,
+    2, 0, 0, 0, 0, 0, 2, 0,
+    0, 0, 2, 0, 2, 0, 0, 0,
+];
+
+/// D 2, all cells 1: the rows vary though each is whole.
+#[rustfmt::skip]
+const ROWS_VARY: &[u8] = &[
+    1, 0, 2, 2, 2, 0, 0, 0,
+    2, 0, 0, 0, 32, 0, 0, 0,
+    1, 0, 0, 0, 48, 0, 0, 0,
+    1, 0, 0, 0, 56, 0, 0, 0,
+    1, 0, 0, 0, 1, 0, 0, 0, 1, 0, 0, 0, 1, 0, 0, 0,
+    1, 0, 1, 0, 0, 0, 0, 0,
+    0, 0, 0, 0, 1, 0, 1, 0,
+];
+
+/// The columns vary.
+#[rustfmt::skip]
+const COLUMNS_VARY: &[u8] = &[
+    1, 0, 2, 2, 2, 0, 0, 0,
+    2, 0, 0, 0, 32, 0, 0, 0,
+    1, 0, 0, 0, 48, 0, 0, 0,
+    1, 0, 0, 0, 56, 0, 0, 0,
+    1, 0, 0, 0, 1, 0, 0, 0, 1, 0, 0, 0, 1, 0, 0, 0,
+    1, 0, 0, 0, 1, 0, 0, 0,
+    0, 0, 1, 0, 0, 0, 1, 0,
+];
+
+/// No array.
+#[rustfmt::skip]
+const NO_ARRAYS: &[u8] = &[
+    1, 0, 1, 1, 0, 0, 0, 0,
+    1, 0, 0, 0, 16, 0, 0, 0,
+    0, 0, 0, 0,
+];
+
+/// One cell with one array: D, the cell, the weight and the count, each below 256.
+#[rustfmt::skip]
+pub(super) fn one_cell(denominator: u8, cell: u8, weight: u8, count: u8) -> Vec<u8> {
+    vec![
+        1, 0, 1, 1, 1, 0, 0, 0,
+        denominator, 0, 0, 0, 24, 0, 0, 0,
+        weight, 0, 0, 0, 28, 0, 0, 0,
+        cell, 0, 0, 0,
+        count, 0,
+    ]
+}
+
+/// Cells 0 over D 1 with one array: r and c, the offset of the array, and then the
+/// zeros of both bodies.
+#[rustfmt::skip]
+fn zeros(rows: u8, columns: u8, offset: u8, bytes: usize) -> Vec<u8> {
+    let head = [
+        1, 0, rows, columns, 1, 0, 0, 0,
+        1, 0, 0, 0, 24, 0, 0, 0,
+        1, 0, 0, 0, offset, 0, 0, 0,
+    ];
+    [&head[..], &vec![0; bytes]].concat()
+}
+
+/// One cell 0 over D 171 with 171 arrays, weight 1 each.
+#[rustfmt::skip]
+fn many_arrays() -> Vec<u8> {
+    let mut bytes = vec![
+        1, 0, 1, 1, 171, 0, 0, 0,
+        171, 0, 0, 0, 104, 5, 0, 0,
+    ];
+    for array in 0..171 {
+        let offset = 1388 + 2 * array;
+        bytes.extend([1, 0, 0, 0, (offset % 256) as u8, (offset / 256) as u8, 0, 0]);
+    }
+    bytes.extend([0; 346]);
+    bytes
+}
+
+/// A stored plan, and the number that opening it gives.
+#[derive(Debug)]
+pub struct Case {
+    pub bytes: Vec<u8>,
+    pub number: u32,
+}
+
+fn gives(bytes: impl Into<Vec<u8>>, number: u32) -> Case {
+    Case {
+        bytes: bytes.into(),
+        number,
+    }
+}
+
+pub fn cases() -> Vec<Case> {
+    let largest = [(8, 255), (9, 255), (16, 255), (17, 255)];
+    vec![
+        gives(SQUARE, 0),
+        gives(WIDE, 0),
+        gives(RECURRING, 0),
+        gives(one_cell(1, 1, 1, 1), 0),
+        gives(THREE_ONES, 0),
+        // the grand total of an array is not tested
+        gives(SWINGING, 0),
+        // form, zero field, r, c, K, offsets of the table and of an array, a byte more,
+        // a byte less
+        gives(changed(SQUARE, &[(0, 2)]), 5),
+        gives(changed(SQUARE, &[(1, 1)]), 5),
+        gives(changed(SQUARE, &[(6, 1)]), 5),
+        gives(changed(SQUARE, &[(7, 1)]), 5),
+        gives(changed(WIDE, &[(2, 3)]), 5),
+        gives(changed(WIDE, &[(3, 2)]), 5),
+        gives(changed(WIDE, &[(4, 6)]), 5),
+        gives(changed(SQUARE, &[(12, 33)]), 5),
+        gives(changed(SQUARE, &[(20, 50)]), 5),
+        gives(changed(RECURRING, &[(117, 0)]), 5),
+        gives(longer(SQUARE), 5),
+        gives(&SQUARE[..63], 5),
+        // 12 rows and 13, 12 columns and 13
+        gives(zeros(12, 1, 72, 72), 0),
+        gives(zeros(13, 1, 76, 78), 5),
+        gives(zeros(1, 12, 72, 72), 0),
+        gives(zeros(1, 13, 76, 78), 5),
+        // no rows, no columns, D 0, D 65,535 and 65,536 with its only weight
+        gives(zeros(0, 1, 24, 0), 5),
+        gives(zeros(1, 0, 24, 0), 5),
+        gives(one_cell(0, 0, 1, 0), 5),
+        gives(changed(&one_cell(0, 0, 0, 0), &largest), 0),
+        gives(changed(&one_cell(0, 0, 0, 0), &[(10, 1), (18, 1)]), 5),
+        // 171 arrays, no arrays, and no bytes at all
+        gives(many_arrays(), 5),
+        gives(NO_ARRAYS, 5),
+        gives([], 5),
+        // a cell of 1000·D and of one more, over D 1, with its count
+        gives(changed(&one_cell(1, 232, 1, 232), &[(25, 3), (29, 3)]), 0),
+        gives(changed(&one_cell(1, 233, 1, 233), &[(25, 3), (29, 3)]), 6),
+        // a weight of 0, and weights that add up to D − 1 and D + 1
+        gives(changed(THREE_ONES, &[(16, 2), (32, 0)]), 6),
+        gives(one_cell(2, 0, 1, 0), 6),
+        gives(one_cell(2, 0, 3, 0), 6),
+        // cells that vary where lines do not, rows that vary, columns that vary
+        gives(CELLS_VARY, 6),
+        gives(ROWS_VARY, 6),
+        gives(COLUMNS_VARY, 6),
+        // counts times weights that do not add up to the table
+        gives(one_cell(2, 1, 2, 0), 6),
+        // 5 and 6 both apply
+        gives(longer(&one_cell(2, 0, 1, 0)), 5),
+    ]
+}

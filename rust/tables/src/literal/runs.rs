@@ -1,0 +1,136 @@
+//! Small runs: a start on a record that held anything, then draws, and what is said of
+//! them (01, "Examples" and "What demand 3 speaks of").
+
+use super::campaign::{record, single, Record};
+use super::stored::SQUARE;
+use super::FIVE;
+
+/// A draw of a run: its number, and the buffer that it lends.
+#[derive(Debug)]
+pub struct Asked {
+    pub number: u32,
+    pub buffer: &'static [u16],
+}
+
+const fn ask(number: u32) -> Asked {
+    Asked {
+        number,
+        buffer: FIVE,
+    }
+}
+
+const fn ask_short(number: u32) -> Asked {
+    Asked {
+        number,
+        buffer: &[],
+    }
+}
+
+/// What is said of a run.
+#[derive(Clone, Debug, PartialEq, Eq)]
+pub struct Said {
+    /// The answers to its draws.
+    pub answers: Vec<u32>,
+    /// Which numbers are used.
+    pub used: Vec<bool>,
+    /// How many draws were accepted.
+    pub accepted: u32,
+    /// What was drawn, and what the unused numbers hold, for each cell, row and column.
+    pub drawn: Vec<u32>,
+    pub unused: Vec<u32>,
+    /// The record at the end.
+    pub last: Record,
+    /// The answers due next to each of `NEXT`.
+    pub next: [u32; 4],
+}
+
+/// Draws that may come next: of 0, 1 and 2, and of 1 with no buffer.
+pub const NEXT: [Asked; 4] = [ask(0), ask(1), ask(2), ask_short(1)];
+
+/// A run, which starts on `campaign::any`.
+#[derive(Debug)]
+pub struct Run {
+    pub plan: Vec<u8>,
+    pub rows: usize,
+    pub columns: usize,
+    pub asked: Vec<Asked>,
+    pub said: Said,
+}
+
+impl Run {
+    /// The sum of arrays, for each cell, row and column; what a buffer has beyond its
+    /// array does not count.
+    pub fn sums(&self, arrays: &[Vec<u16>]) -> Vec<u32> {
+        let sum = |cell: usize| arrays.iter().map(|array| u32::from(array[cell])).sum();
+        let cells: Vec<u32> = (0..self.rows * self.columns).map(sum).collect();
+        let rows = cells.chunks(self.columns).map(|row| row.iter().sum());
+        let in_column = |column| cells.iter().skip(column).step_by(self.columns);
+        let columns = (0..self.columns).map(|column| in_column(column).sum());
+        cells.iter().copied().chain(rows).chain(columns).collect()
+    }
+}
+
+pub fn runs() -> Vec<Run> {
+    vec![
+        Run {
+            plan: SQUARE.to_vec(),
+            rows: 2,
+            columns: 2,
+            asked: vec![],
+            said: Said {
+                answers: vec![],
+                used: vec![false, false],
+                accepted: 0,
+                drawn: vec![0, 0, 0, 0, 0, 0, 0, 0],
+                unused: vec![1, 1, 1, 1, 2, 2, 2, 2],
+                last: record(0, &[0, 6], &[0, 0, 0, 0, 5]),
+                next: [0, 0, 8, 7],
+            },
+        },
+        Run {
+            plan: SQUARE.to_vec(),
+            rows: 2,
+            columns: 2,
+            asked: vec![ask_short(1), ask(0), ask(0), ask(2)],
+            said: Said {
+                answers: vec![7, 0, 10, 8],
+                used: vec![true, false],
+                accepted: 1,
+                drawn: vec![0, 1, 1, 0, 1, 1, 1, 1],
+                unused: vec![1, 0, 0, 1, 1, 1, 1, 1],
+                last: record(1, &[1, 6], &[0, 1, 1, 0, 5]),
+                next: [10, 0, 8, 7],
+            },
+        },
+        Run {
+            plan: SQUARE.to_vec(),
+            rows: 2,
+            columns: 2,
+            asked: vec![ask(1), ask(0)],
+            said: Said {
+                answers: vec![0, 0],
+                used: vec![true, true],
+                accepted: 2,
+                drawn: vec![1, 1, 1, 1, 2, 2, 2, 2],
+                unused: vec![0, 0, 0, 0, 0, 0, 0, 0],
+                last: record(2, &[3, 6], &[1, 1, 1, 1, 5]),
+                next: [10, 10, 8, 7],
+            },
+        },
+        Run {
+            plan: single(1),
+            rows: 1,
+            columns: 1,
+            asked: vec![ask(0), ask(0), ask(1)],
+            said: Said {
+                answers: vec![0, 10, 8],
+                used: vec![true],
+                accepted: 1,
+                drawn: vec![1, 1, 1],
+                unused: vec![0, 0, 0],
+                last: record(1, &[1, 6], &[1, 2, 3, 4, 5]),
+                next: [10, 8, 8, 7],
+            },
+        },
+    ]
+}
