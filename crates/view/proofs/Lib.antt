@@ -1,1 +1,2 @@
 mod Viewing
+pub mod Examples

@@ -1,10 +1,11 @@
 // An opened plan as a view over the lent bytes. Thin readers over functions on the slice and plain numbers.
 ghost use mathlib.Core.Path.{_≡_};
-ghost use mathlib.Core.List.{List};
+ghost use mathlib.Core.List.{List, map};
 ghost use Prim.Native.Nat.{ℕ};
 ghost use Rattle.table.specs.Check.{upTo};
 ghost use Rattle.opening.specs.Open.{Opens, openAnswer};
 ghost use Rattle.view.specs.View.{summaryOf, hasCell, weightAnswer, countAnswer, Readers};
+ghost use Rattle.view.specs.Examples.{summaries, summariesFound, weights, weightsFound, places, countFound};
 use form::find::Reading;
 use form::find::find_count;
 use form::find::find_weight;
@@ -128,7 +129,10 @@ pub fn count<'a>(v: View<'a>, k: usize, p: usize, q: usize) -> Reading
     count_in(v.bytes, v.found, k, p, q)
 }
 
-// On bytes that open, a view's readers find every weight and count.
+// On bytes that open, a view's readers find every weight and count; and the literal cases are as stated.
 pub fn claims()
     ensures readers { λ _. ⌜ ((b : List ℕ) → Opens b → Readers b) ⌝ }
+    ensures summaries { λ _. ⌜ summariesFound ≡ summaries ⌝ }
+    ensures weights { λ _. ⌜ weightsFound ≡ weights ⌝ }
+    ensures counts { λ _. ⌜ map countFound places ≡ map (λ x. x .count) places ⌝ }
 {}

@@ -1,0 +1,53 @@
+-- What a view of a plan that is typed out byte by byte says: arrays are counted from 1, rows and columns from 0. Assumes nothing.
+use mathlib.Core.List.{List, [], _∷_, map}
+use Prim.Native.Nat.{ℕ}
+use Rattle.form.specs.declared.find.Reading.{Reading}
+use Rattle.form.specs.declared.find.Reading.the-variants.{Value, Missing}
+use Rattle.form.specs.Examples.{wide}
+use Rattle.opening.specs.Open.{openAnswer}
+use Rattle.view.specs.declared.Summary.{Summary}
+use Rattle.view.specs.View.{summaryOf, weightAnswer, countAnswer}
+
+-- what opening its bytes, and no bytes, finds
+abbrev pub summaries : List Summary
+summaries =
+    record { refusal = 0; rows = 2; columns = 3; arrays = 7; denominator = 1000 }
+    ∷ record { refusal = 5; rows = 0; columns = 0; arrays = 0; denominator = 0 }
+    ∷ []
+
+abbrev pub summariesFound : List Summary
+summariesFound = summaryOf (openAnswer wide) ∷ summaryOf (openAnswer []) ∷ []
+
+-- the weights of arrays 0 to 8: the first and the last are none
+abbrev pub weights : List Reading
+weights = Missing ∷ Value 100 ∷ Value 494 ∷ Value 1 ∷ Value 5 ∷ Value 176 ∷ Value 160 ∷ Value 64 ∷ Missing ∷ []
+
+abbrev pub weightsFound : List Reading
+weightsFound = map (weightAnswer wide (summaryOf (openAnswer wide))) (0 ∷ 1 ∷ 2 ∷ 3 ∷ 4 ∷ 5 ∷ 6 ∷ 7 ∷ 8 ∷ [])
+
+-- a count of an array, by row and column
+pub record Place : Type 0 where
+  pub array : ℕ
+  pub row : ℕ
+  pub column : ℕ
+  pub count : Reading
+
+abbrev pub at : ℕ → ℕ → ℕ → Reading → Place
+at k p q n = record { array = k; row = p; column = q; count = n }
+
+abbrev pub places : List Place
+places =
+    at 7 0 0 (Value 301)
+    ∷ at 7 0 2 (Value 65)
+    ∷ at 7 1 0 (Value 1)
+    ∷ at 2 1 0 (Value 2)
+    ∷ at 2 1 2 (Value 1)
+    -- no array 0 or 8, no row 2, no column 3
+    ∷ at 0 0 0 Missing
+    ∷ at 8 0 0 Missing
+    ∷ at 1 2 0 Missing
+    ∷ at 1 0 3 Missing
+    ∷ []
+
+abbrev pub countFound : Place → Reading
+countFound x = countAnswer wide (summaryOf (openAnswer wide)) (x .array) (x .row) (x .column)
