@@ -1,4 +1,5 @@
 pub mod Lowests
+pub mod Conditions
 pub mod Steps
 pub mod Runs
 pub mod Campaigns

@@ -13,13 +13,14 @@ use Rattle.refusals.proofs.Dues.{due-second}
 use Rattle.table.specs.Check.{tableTests, tableRefusal}
 use Rattle.plan.specs.declared.Planned.{Planned}
 use Rattle.plan.specs.declared.Planned.the-variants.{Length}
-use Rattle.plan.specs.Call.{planBytes, planRefusal, planAnswer}
-use Rattle.plan.specs.Promises.{PlanAnswers}
+use Rattle.plan.specs.Call.{planBytes, planRefusal, planAnswer, PlanAnswers}
+use Rattle.plan.proofs.Planning.{promised}
+use Rattle.table.proofs.Checks.{passed-all}
 use Rattle.demands.specs.Plans.{Served}
 use Rattle.demands.proofs.Campaigns.{claim}
 
-module _ {r c d : ℕ} {g old : List ℕ} {p : Planned} {new : List ℕ} (a : PlanAnswers r c d g old p new) (t : tableRefusal r c d g ≡ none)
-    (room : length (planBytes r c d g) ≤ length old) where
+module _ (r c d : ℕ) (g old new : List ℕ) (p : Planned) (t : tableRefusal r c d g ≡ none) (room : length (planBytes r c d g) ≤ length old)
+    (a : PlanAnswers r c d g old p new) where
   none-due : planRefusal r c d g (length old) ≡ none
   unfolding planRefusal tableRefusal due
   none-due = due-second (tableTests r c d g) (refuse Buffer (ltb (length old) (length (planBytes r c d g))) ∷ []) t ∙ simp (le-ltb _ _ room)
@@ -34,12 +35,12 @@ module _ {r c d : ℕ} {g old : List ℕ} {p : Planned} {new : List ℕ} (a : Pl
 
   pub served : Served r c d g p new
   served =
-      let promised = a .promises t in
+      let promises = promised (passed-all r c d g t) in
       record {
         size = length (planBytes r c d g);
         returned = answered;
-        opens = rw bytes (promised .opening);
-        plan = rw bytes (promised .decodes);
-        few = rw (bytes, promised .decodes) (promised .few);
-        campaigns = rw bytes (claim (planBytes r c d g) (promised .opening));
+        opens = rw bytes (promises .opening);
+        plan = rw bytes (promises .decodes);
+        few = rw (bytes, promises .decodes) (promises .few);
+        campaigns = rw bytes (claim (planBytes r c d g) (promises .opening));
       }

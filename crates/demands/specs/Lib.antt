@@ -1,4 +1,5 @@
 pub mod Refusals
+pub mod Opening
 pub mod Runs
 pub mod Claim
 pub mod Plans

@@ -1,7 +1,10 @@
-// What the specification demands, in its own words. Demand 1: each public function of the crates below ends and touches nothing that it was not lent, which
-// is what being proved means; which refusal it returns is `claims`, `refusals`, and that a refusal changes nothing is in each call's contract. Demand 2:
-// `plan`, `plans`, and `opening::open::open`. Demand 3: `claims`, `every_run`, and `plan`, `serves`. Literal cases of each definition stand in `claims` of
-// the crate that holds it.
+// What the specification demands, in its own words; `claims` proves it of the definitions that the code is equated with. Literal cases of each definition
+// stand in `claims` of the crate that holds it.
+//
+// Demand 1, that no call runs without end, touches memory that it was not lent, or goes unrefused: being proved means the first two; `refusals` says which
+// refusal each call returns; that a refusal leaves every lent buffer as it was is in each call's contract (`after`).
+// Demand 2, that every plan is the specification's: `plans`. A stored plan opens just if it meets the stated conditions: `opens`.
+// Demand 3, on campaigns: `every_run`, for any plan that opens; and `serves`, for the plan of every accepted table.
 ghost use mathlib.Core.Path.{_≡_};
 ghost use mathlib.Core.Bool.{true};
 ghost use mathlib.Core.List.{List, map};
@@ -13,33 +16,32 @@ ghost use Rattle.table.specs.Table.{maxRows, maxColumns, maxEntries, entryPlace
 ghost use Rattle.table.specs.Whole.{down, whole};
 ghost use Rattle.table.specs.Check.{tableRefusal};
 ghost use Rattle.form.specs.Plan.{Weighted};
+ghost use Rattle.opening.specs.Open.{Opens};
 ghost use Rattle.plan.specs.Rounds.{limitOf};
-ghost use Rattle.plan.specs.Call.{planBytes};
-ghost use Rattle.plan.specs.Promises.{PlanAnswers};
+ghost use Rattle.plan.specs.declared.Planned.{Planned};
+ghost use Rattle.plan.specs.Call.{planBytes, PlanAnswers};
+ghost use Rattle.plan.specs.Promises.{Promises};
 ghost use Rattle.demands.specs.Refusals.{EachRefuses};
+ghost use Rattle.demands.specs.Opening.{Conditions};
 ghost use Rattle.demands.specs.Claim.{Claim};
 ghost use Rattle.demands.specs.Plans.{Served};
 ghost use Rattle.demands.specs.Numbers.{Belonging};
 ghost use Rattle.demands.specs.Examples.{ExamplesHold};
 ghost use Rattle.demands.specs.Campaigns.{runs, saidOf};
 ghost use Rattle.demands.specs.Slips.{SlipsShut};
-use plan::Planned;
-
-// Plans a table. For every accepted table the plan is the specification's, and a buffer with room gets bytes on which every list of draws is held to the claim.
-pub fn plan(rows: u32, columns: u32, denominator: u32, cells: &[u32], plan: &mut [u8]) -> Planned
-    ensures plans { λ r. ⌜ PlanAnswers rows columns denominator (now (cells .entry)) (now (plan .entry)) r (now (plan .exit)) ⌝ }
-    ensures serves { λ r. ⌜ (tableRefusal rows columns denominator (now (cells .entry)) ≡ none
-        → length (planBytes rows columns denominator (now (cells .entry))) ≤ length (now (plan .entry))
-        → Served rows columns denominator (now (cells .entry)) r (now (plan .exit))) ⌝ }
-{
-    plan::plan(rows, columns, denominator, cells, plan)
-}
 
 pub fn claims()
-    // the lowest refusal that applies, of every call
+    // every call returns the lowest refusal that applies
     ensures refusals { λ _. ⌜ EachRefuses ⌝ }
+    // what the plan of every accepted table keeps
+    ensures plans { λ _. ⌜ ((r c d : ℕ) (g : List ℕ) → tableRefusal r c d g ≡ none → Promises r c d g) ⌝ }
+    // what is known of bytes that open, and what is enough for it
+    ensures opens { λ _. ⌜ ((b : List ℕ) → (Opens b → Conditions b) × (Conditions b → Opens b)) ⌝ }
     // every list of draws after a start, on any plan that opens
     ensures every_run { λ _. ⌜ Claim ⌝ }
+    // and on what the call "plan" gives for every accepted table, in a buffer with room
+    ensures serves { λ _. ⌜ ((r c d : ℕ) (g old new : List ℕ) (p : Planned) → tableRefusal r c d g ≡ none → length (planBytes r c d g) ≤ length old
+        → PlanAnswers r c d g old p new → Served r c d g p new) ⌝ }
     // sentences of the specification that follow from its definitions: the number of entries, a whole entry's limit, the array of a draw number
     ensures entries { λ _. ⌜ ((r c : ℕ) → r ≤ maxRows → c ≤ maxColumns → length (entryPlaces r c) ≤ maxEntries) ⌝ }
     ensures whole_limit { λ _. ⌜ ((w e : ℕ) → whole w e ≡ true → limitOf w e (down w e) ≡ w) ⌝ }

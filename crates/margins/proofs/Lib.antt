@@ -6,3 +6,4 @@ mod Fixes
 mod Fills
 mod FirstMatrices
 mod Cells
+pub mod Existence

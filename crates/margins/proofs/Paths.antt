@@ -29,7 +29,7 @@ pub place-swap : (x p y q : ℕ) → samePlace x p y q ≡ samePlace y q x p
 unfolding samePlace
 place-swap x p y q = omega arith
 
-sum-place : (x p q : ℕ) → q < 13 → sumTo 13 (λ y. samePlace x p y q) ≡ ind x p
+pub sum-place : (x p q : ℕ) → q < 13 → sumTo 13 (λ y. samePlace x p y q) ≡ ind x p
 sum-place x p q h = go (ℕ-discrete x p)
   where
     go : Dec (x ≡ p) → sumTo 13 (λ y. samePlace x p y q) ≡ ind x p

@@ -23,7 +23,7 @@ use Rattle.grid.proofs.GridPlaces.{grid-entry, length-grid}
 use Rattle.grid.proofs.GridBounds.{grid-small}
 use Rattle.table.proofs.Roundings.{gap-le}
 use Rattle.table.proofs.Sizes.{few-cells, shape-of}
-use Rattle.rounding.specs.Rounding.{isRounding, IsFirst, firstRounding}
+use Rattle.rounding.specs.Rounding.{isRounding, firstRounding}
 use Rattle.rounding.specs.Lines.{gridCell, IsGrid, Ready}
 use Rattle.rounding.proofs.Roundings.{rounding-length}
 use Rattle.rounding.proofs.Calls.{cell-of-grid, rounding-ready}
@@ -100,10 +100,7 @@ module _ {r c d : ℕ} {g : List ℕ} {w k : ℕ} {e weights counts : List ℕ} 
     start-fits = record { fits = omega (arith, ends) }
 
     module _ {a : List ℕ} {x : ℕ} {e' : List ℕ} (u : RoundDone w e a x e') where
-      first : IsFirst r c w (o .rest) (firstRounding r c w (o .rest))
-      first = u .first r c (o .rest) (o .progress .shape) (o .grid)
-
-      x-is : x ≡ nextWeight (o .progress) wp first
+      x-is : x ≡ nextWeight (o .progress) wp
       unfolding nextWeight
       x-is = u .weight r c (o .rest) (o .progress .shape) (o .grid)
 
@@ -112,19 +109,19 @@ module _ {r c d : ℕ} {g : List ℕ} {w k : ℕ} {e weights counts : List ℕ} 
 
       rounds-table : isRounding r c d g (firstRounding r c w (o .rest)) ≡ true
       unfolding nextArray
-      rounds-table = array-rounds (o .progress) wp first
+      rounds-table = array-rounds (o .progress) wp
 
       array-shape : Shape r c (firstRounding r c w (o .rest))
       array-shape = shape-of (o .table .shape) _ (rounding-length (o .table .shape) d _ rounds-table)
 
       pub weight-most : x ≤ w
-      weight-most = omega (arith, x-is, high-weight (o .progress) wp first)
+      weight-most = omega (arith, x-is, high-weight (o .progress) wp)
 
       pub weight-fits : x ≤ 4294967295
       weight-fits = omega (arith, weight-most, weight-left)
 
       pub less-left : w - x < w
-      less-left = omega (arith, x-is, low-weight (o .progress) wp first)
+      less-left = omega (arith, x-is, low-weight (o .progress) wp)
 
       pub array-ready : Ready a r c (length counts) (k * (r * c))
       array-ready = rounding-ready (o .table) _ rounds-table a-is (omega (arith, ends, o .counts-len))
@@ -135,13 +132,13 @@ module _ {r c d : ℕ} {g : List ℕ} {w k : ℕ} {e weights counts : List ℕ} 
       -- one array more
       module _ {v : ℕ} (ve : v ≡ x) {counts' : List ℕ} (f : Filled (gridCell a c) (k * (r * c)) counts counts' (r * c)) where
         done' : List Weighted
-        done' = o .done ++ (nextWeighted (o .progress) wp first ∷ [])
+        done' = o .done ++ (nextWeighted (o .progress) wp ∷ [])
 
         at-old : (i : ℕ) → i < k → arrayAt done' i ≡ arrayAt (o .done) i
         unfolding done'
         at-old i h = List·getD-append (o .done) _ _ i (omega (arith, o .progress .count))
 
-        at-new : arrayAt done' k ≡ nextWeighted (o .progress) wp first
+        at-new : arrayAt done' k ≡ nextWeighted (o .progress) wp
         unfolding done'
         at-new = ap (λ (j : ℕ). arrayAt done' j) (sym (o .progress .count)) ∙ getD-append-seam (o .done) _ [] _
 
@@ -170,7 +167,7 @@ module _ {r c d : ℕ} {g : List ℕ} {w k : ℕ} {e weights counts : List ℕ} 
           table = o .table;
           rest = without x (firstRounding r c w (o .rest)) (o .rest);
           done = done';
-          progress = subst (λ (y : ℕ). Progress r c d g (w - y) (k + 1) (without y (firstRounding r c w (o .rest)) (o .rest)) (o .done ++ (nextWeighted (o .progress) wp first ∷ []))) (sym x-is) (progress-step (o .progress) wp first);
+          progress = subst (λ (y : ℕ). Progress r c d g (w - y) (k + 1) (without y (firstRounding r c w (o .rest)) (o .rest)) (o .done ++ (nextWeighted (o .progress) wp ∷ []))) (sym x-is) (progress-step (o .progress) wp);
           grid = u .left r c (o .rest) (o .progress .shape) (o .grid);
           weights-len = length-set weights k v ∙ o .weights-len;
           counts-len = f .len ∙ o .counts-len;

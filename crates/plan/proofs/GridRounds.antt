@@ -22,6 +22,7 @@ use Rattle.grid.proofs.GridTests.{grid-entries, grid-each}
 use Rattle.rounding.specs.Rounding.{IsFirst, firstRounding}
 use Rattle.rounding.specs.Lines.{IsGrid, RoundedGrid}
 use Rattle.rounding.proofs.Roundings.{rounding-grid}
+use Rattle.rounding.proofs.Existence.{first-exists}
 use Rattle.plan.specs.Rounds.{limitOf, weightOf, without}
 use Rattle.plan.specs.Grids.{Rounded, limitAt, Smallest, Bears, Lost, RoundDone}
 use Rattle.plan.proofs.OneRound.{attains, weight-most, weight-high, rest, rest-total}
@@ -31,8 +32,8 @@ module _ {w : ℕ} (wp : 0 < w) {e n : List ℕ} (o : RoundedGrid w e n) (r c : 
   array : List ℕ
   array = firstRounding r c w g
 
-  pub first : IsFirst r c w g (firstRounding r c w g)
-  first = o .first r c g s is
+  first : IsFirst r c w g (firstRounding r c w g)
+  first = first-exists s wp
 
   e-at : (k : ℕ) → k < 169 → getD e k 0 ≡ gridAt r c g (k / 13) (k % 13)
   e-at k h = ap (λ (l : List ℕ). getD l k 0) is ∙ grid-entry r c g k h
@@ -103,7 +104,6 @@ module _ {w : ℕ} (wp : 0 < w) (ws : w ≤ 65535) {e n : List ℕ} (i : IsGrid 
 
     pub round-done : {e' : List ℕ} → Lost x e n e' → RoundDone w e n x e'
     round-done z = record {
-      first = o .first;
       array = o .is;
       weight = λ r c g s is. weight-is wp o r c g s is lm sm;
       left = λ r c g s is. left-is wp o r c g s is lm sm z;

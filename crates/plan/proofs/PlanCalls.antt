@@ -19,6 +19,7 @@ use Rattle.table.specs.Check.{tableTests, tableRefusal, checkOf}
 use Rattle.table.specs.declared.Table.{Table}
 use Rattle.table.specs.declared.Checked.{Checked}
 use Rattle.table.specs.declared.Checked.the-variants as checked
+use Rattle.table.proofs.Checks.{passed-all}
 use Rattle.table.proofs.Sizes.{few-cells}
 use Rattle.table.proofs.Tables.{table-accepted, taken, not-taken, refused-table, refused-buffer, refused-nothing}
 use Rattle.form.specs.Plan.{Plan}
@@ -28,21 +29,20 @@ use Rattle.form.proofs.Layouts.{plan-most}
 use Rattle.writing.specs.Write.{bufferedPlan, Writable}
 use Rattle.plan.specs.declared.Planned.{Planned}
 use Rattle.plan.specs.declared.Planned.the-variants.{Length, Refused}
-use Rattle.plan.specs.Call.{planBytes, planRefusal, planAnswer, Apart}
+use Rattle.plan.specs.Call.{planBytes, planRefusal, planAnswer, PlanAnswers, Apart}
 use Rattle.plan.specs.Grids.{AllGathered}
-use Rattle.plan.specs.Promises.{Promises, PlanAnswers}
-use Rattle.plan.proofs.Planning.{sizes, plan-held, bytes-length, promises}
+use Rattle.plan.proofs.Planning.{promised, gathered-sizes, gathered-length, plan-held}
 
 -- the answer and the buffer, by what is due
-module _ {r c d : ℕ} {g old : List ℕ} (f : tableRefusal r c d g ≡ none → Promises r c d g) where
+module _ {r c d : ℕ} {g old : List ℕ} where
   refused-so : {x : Refusal} → planRefusal r c d g (length old) ≡ some x → PlanAnswers r c d g old (Refused x) old
   unfolding planAnswer after
-  refused-so h = record { answer = rw h refl; buffer = rw h refl; promises = f }
+  refused-so h = record { answer = rw h refl; buffer = rw h refl }
 
   accepted-so : {n : ℕ} {new : List ℕ} → planRefusal r c d g (length old) ≡ none → n ≡ length (planBytes r c d g) → new ≡ written (planBytes r c d g) old
       → PlanAnswers r c d g old (Length n) new
   unfolding planAnswer after
-  accepted-so h e w = record { answer = rw h (ap Length e); buffer = rw h w; promises = f }
+  accepted-so h e w = record { answer = rw h (ap Length e); buffer = rw h w }
 
 -- an accepted table whose rounds are done
 module _ {r c d : ℕ} {g : List ℕ} {k : ℕ} {weights counts : List ℕ} (a : AllGathered r c d g k weights counts) where
@@ -50,33 +50,33 @@ module _ {r c d : ℕ} {g : List ℕ} {k : ℕ} {weights counts : List ℕ} (a :
   t = a .rounds .table
 
   pub length-ready : Bounded r c k
-  length-ready = sizes a .0
+  length-ready = gathered-sizes a .0
 
   module _ {n : ℕ} (e : n ≡ planLength r c k) where
     n-is : n ≡ length (planBytes r c d g)
-    n-is = e ∙ sym (bytes-length a)
+    n-is = e ∙ sym (gathered-length a)
 
     pub length-fits : Fits w32 n
     length-fits = record { fits = omega (arith, e, plan-most length-ready) }
 
     pub too-short : {old : List ℕ} → length old < n → PlanAnswers r c d g old (Refused Buffer) old
     unfolding planRefusal
-    too-short {old} h = refused-so (λ _. promises a) (refused-buffer r c d g (length old) _ (table-accepted t) (omega (arith, n-is)))
+    too-short {old} h = refused-so (refused-buffer r c d g (length old) _ (table-accepted t) (omega (arith, n-is)))
 
     pub long-enough : {d' : ℕ} {old new : List ℕ} → n ≤ length old → d' ≡ d → new ≡ written (encode (bufferedPlan (record { rows = r; columns = c; arrays = k; denominator = d' }) g weights counts)) old
         → PlanAnswers r c d g old (Length n) new
     unfolding planRefusal planBytes
-    long-enough {old = old} h same w = accepted-so (λ _. promises a) (refused-nothing r c d g (length old) _ (table-accepted t) (omega (arith, n-is))) n-is
+    long-enough {old = old} h same w = accepted-so (refused-nothing r c d g (length old) _ (table-accepted t) (omega (arith, n-is))) n-is
         (rw same at w ∙ ap (λ (p : Plan). written (encode p) old) (plan-held a))
 
   pub writable : {n d' : ℕ} {plan : List ℕ} → n ≡ planLength r c k → n ≤ length plan
       → Writable (record { rows = r; columns = c; arrays = k; denominator = d' }) g weights counts plan
   writable e h = record {
     shape = t .shape;
-    some-arrays = sizes a .1;
-    arrays = sizes a .0 .arrays;
-    weighed = omega (arith, a .rounds .weights-len, sizes a .0 .arrays);
-    counted = omega (arith, a .rounds .counts-len, mul-le-mul (sizes a .0 .arrays) (few-cells (t .shape)));
+    some-arrays = gathered-sizes a .1;
+    arrays = gathered-sizes a .0 .arrays;
+    weighed = omega (arith, a .rounds .weights-len, gathered-sizes a .0 .arrays);
+    counted = omega (arith, a .rounds .counts-len, mul-le-mul (gathered-sizes a .0 .arrays) (few-cells (t .shape)));
     room = omega arith;
   }
 
@@ -84,9 +84,7 @@ module _ {r c d : ℕ} {g : List ℕ} {k : ℕ} {weights counts : List ℕ} (a :
 module _ (r c d : ℕ) (g : List ℕ) {k : Checked} (e : k ≡ checkOf r c d g) where
   pub refused : {x : Refusal} {old : List ℕ} → k ≡ checked.Refused x → PlanAnswers r c d g old (Refused x) old
   unfolding planRefusal
-  refused {x} {old} h =
-      let due : tableRefusal r c d g ≡ some x = not-taken r c d g e x h in
-      refused-so (λ n. absurd (let z : _≡_ {A = ℕ} 0 1 = cc in omega arith)) (refused-table r c d g (length old) _ x due)
+  refused {x} {old} h = refused-so (refused-table r c d g (length old) _ x (not-taken r c d g e x h))
 
   module _ {t : Table} (h : k ≡ checked.Accepted t) where
     pub is-table : IsTable (t .rows) (t .columns) (t .denominator) g
@@ -122,4 +120,4 @@ number-apart {r} {c} {d} {g} {old} f = rw (f .answer) (go (planRefusal r c d g (
   where
     go : (o : Option Refusal) → planRefusal r c d g (length old) ≡ o → Apart (refusedOr Refused (Length (length (planBytes r c d g))) o)
     go (some x) q = refusal-small x
-    go none q = f .promises (first-none (tableTests r c d g) _ q) .len-low
+    go none q = promised (passed-all r c d g (first-none (tableTests r c d g) _ q)) .len-low

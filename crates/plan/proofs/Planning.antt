@@ -1,4 +1,4 @@
--- When no weight is left: the plan is what was gathered, and what it promises. Assumes nothing.
+-- When no weight is left: what the plan of every accepted table keeps, and that it is what the code has gathered. Assumes nothing.
 use mathlib.Core.Path.{_≡_, refl, sym, ap, ap₂, _∙_}
 use mathlib.Core.Bool.{true}
 use mathlib.Core.List.{List, [], _∷_, map}
@@ -36,7 +36,7 @@ use Rattle.plan.specs.Grids.{AllGathered}
 use Rattle.plan.specs.Promises.{Promises}
 use Rattle.plan.proofs.GridMembers.{cell-in}
 use Rattle.plan.proofs.OneRound.{total-cell}
-use Rattle.plan.proofs.Progressing.{progress-end, end-rounds}
+use Rattle.plan.proofs.Progressing.{progress-end, end-rounds, ended}
 use Rattle.rounding.proofs.Calls.{array-small}
 use Rattle.plan.proofs.Gathering.{few-not-whole}
 
@@ -57,29 +57,24 @@ unfolding total sum
 total-of-zeros g h [] = refl
 total-of-zeros g h (i ∷ s) = omega (arith, h i, total-of-zeros g h s)
 
-module _ {r c d : ℕ} {g : List ℕ} {k : ℕ} {weights counts : List ℕ} (a : AllGathered r c d g k weights counts) where
-  t : IsTable r c d g
-  t = a .rounds .table
-
-  p : Progress r c d g 0 k (a .rounds .rest) (a .rounds .done)
-  p = a .rounds .progress
-
-  arrays-are : roundsFrom d r c d g ≡ a .rounds .done
+-- the rounds of an accepted table, down to the last
+module _ {r c d : ℕ} {g : List ℕ} (t : IsTable r c d g) {k : ℕ} {left : List ℕ} {done : List Weighted} (p : Progress r c d g 0 k left done) where
+  arrays-are : roundsFrom d r c d g ≡ done
   arrays-are = progress-end p
 
   count-is : length (roundsFrom d r c d g) ≡ k
   count-is = ap length arrays-are ∙ p .count
 
   -- what is left is nothing
-  left-zero : (i : ℕ) → getD (a .rounds .rest) i 0 ≡ 0
+  left-zero : (i : ℕ) → getD left i 0 ≡ 0
   left-zero i = go (decLt i (r * c))
     where
-      go : Dec (i < r * c) → getD (a .rounds .rest) i 0 ≡ 0
-      go (yes h) = omega (arith, p .high (cellPlaces i) (cell-in r c i h), mul-zero (up d (total g (cellPlaces i))), total-cell (a .rounds .rest) i)
-      go (no h) = List·getD-eq-default (a .rounds .rest) 0 {n = i} (omega (arith, p .shape .cells))
+      go : Dec (i < r * c) → getD left i 0 ≡ 0
+      go (yes h) = omega (arith, p .high (cellPlaces i) (cell-in r c i h), mul-zero (up d (total g (cellPlaces i))), total-cell left i)
+      go (no h) = List·getD-eq-default left 0 {n = i} (omega (arith, p .shape .cells))
 
   all-sums : (s : List ℕ) → sum (map (λ x. x .weight * total (x .counts) s) (roundsFrom d r c d g)) ≡ total g s
-  all-sums s = rw arrays-are (omega (arith, p .sums s, total-of-zeros (a .rounds .rest) left-zero s))
+  all-sums s = rw arrays-are (omega (arith, p .sums s, total-of-zeros left left-zero s))
 
   all-weights : sum (map (λ x. x .weight) (roundsFrom d r c d g)) ≡ d
   all-weights = rw arrays-are (omega (arith, p .weights))
@@ -94,9 +89,9 @@ module _ {r c d : ℕ} {g : List ℕ} {k : ℕ} {weights counts : List ℕ} (a :
   few-arrays = omega (arith, p .most, few-not-whole (t .shape .rows) (t .shape .columns) d g)
 
   some-arrays : 1 ≤ k
-  some-arrays = go (a .rounds .done) refl
+  some-arrays = go (done) refl
     where
-      go : (l : List Weighted) → a .rounds .done ≡ l → 1 ≤ k
+      go : (l : List Weighted) → done ≡ l → 1 ≤ k
       go [] e = absurd (omega (arith, p .weights, ap (λ (x : List Weighted). sum (map (λ y. y .weight) x)) e ∙ sum-none, t .some-denominator))
       go (x ∷ l) e = omega (arith, p .count, ap length e)
 
@@ -123,22 +118,6 @@ module _ {r c d : ℕ} {g : List ℕ} {k : ℕ} {weights counts : List ℕ} (a :
 
     weight-small : arrayAt (roundsFrom d r c d g) i .weight ≤ d
     weight-small = omega (arith, at-most-sum (λ x. x .weight) refl (roundsFrom d r c d g) i, all-weights)
-
-    held-is : bufferedArray (r * c) weights counts i ≡ arrayAt (roundsFrom d r c d g) i
-    held-is =
-        let same : arrayAt (roundsFrom d r c d g) i ≡ arrayAt (a .rounds .done) i = ap (λ (l : List Weighted). arrayAt l i) arrays-are in
-        let w : getD weights i 0 ≡ arrayAt (roundsFrom d r c d g) i .weight = a .rounds .weight-at i h ∙ ap (λ (x : Weighted). x .weight) (sym same) in
-        let n : tabulate (r * c) (λ j. getD counts (i * (r * c) + j) 0) ≡ arrayAt (roundsFrom d r c d g) i .counts
-        = tabulate-getD (arrayAt (roundsFrom d r c d g) i .counts) (r * c) 0 _ counts-length
-        (λ j l. a .rounds .count-at i j h l ∙ ap (λ (x : Weighted). getD (x .counts) j 0) (sym same)) in
-        let make : ℕ → List ℕ → Weighted = λ x l. record { weight = x; counts = l } in
-        ap₂ make w n
-
-  pub plan-held : bufferedPlan (record { rows = r; columns = c; arrays = k; denominator = d }) g weights counts ≡ planOf r c d g
-  unfolding planOf
-  plan-held =
-      let e : tabulate k (bufferedArray (r * c) weights counts) ≡ roundsFrom d r c d g = tabulate-getD (roundsFrom d r c d g) k _ _ count-is held-is in
-      rw e refl
 
   shaped : WellShaped (planOf r c d g)
   unfolding planOf
@@ -195,7 +174,7 @@ module _ {r c d : ℕ} {g : List ℕ} {k : ℕ} {weights counts : List ℕ} (a :
   unfolding planBytes planOf
   bytes-length = encode-length (planOf r c d g) ∙ ap (planLength r c) count-is
 
-  pub promises : Promises r c d g
+  promises : Promises r c d g
   unfolding planOf
   promises = record {
     rounds = end-rounds p;
@@ -211,3 +190,36 @@ module _ {r c d : ℕ} {g : List ℕ} {k : ℕ} {weights counts : List ℕ} (a :
     opening = bytes-open;
     decodes = bytes-decode;
   }
+
+pub promised : {r c d : ℕ} {g : List ℕ} → IsTable r c d g → Promises r c d g
+promised t = promises t (ended t .progress)
+
+-- what the code has gathered is the plan
+module _ {r c d : ℕ} {g : List ℕ} {k : ℕ} {weights counts : List ℕ} (a : AllGathered r c d g k weights counts) where
+  t : IsTable r c d g
+  t = a .rounds .table
+
+  p : Progress r c d g 0 k (a .rounds .rest) (a .rounds .done)
+  p = a .rounds .progress
+
+  pub gathered-sizes : Bounded r c k × (1 ≤ k)
+  gathered-sizes = sizes t p
+
+  pub gathered-length : length (planBytes r c d g) ≡ planLength r c k
+  gathered-length = bytes-length t p
+
+  held-is : (i : ℕ) → i < k → bufferedArray (r * c) weights counts i ≡ arrayAt (roundsFrom d r c d g) i
+  held-is i h =
+      let same : arrayAt (roundsFrom d r c d g) i ≡ arrayAt (a .rounds .done) i = ap (λ (l : List Weighted). arrayAt l i) (arrays-are t p) in
+      let w : getD weights i 0 ≡ arrayAt (roundsFrom d r c d g) i .weight = a .rounds .weight-at i h ∙ ap (λ (x : Weighted). x .weight) (sym same) in
+      let n : tabulate (r * c) (λ j. getD counts (i * (r * c) + j) 0) ≡ arrayAt (roundsFrom d r c d g) i .counts
+      = tabulate-getD (arrayAt (roundsFrom d r c d g) i .counts) (r * c) 0 _ (counts-length t p i h)
+      (λ j l. a .rounds .count-at i j h l ∙ ap (λ (x : Weighted). getD (x .counts) j 0) (sym same)) in
+      let make : ℕ → List ℕ → Weighted = λ x l. record { weight = x; counts = l } in
+      ap₂ make w n
+
+  pub plan-held : bufferedPlan (record { rows = r; columns = c; arrays = k; denominator = d }) g weights counts ≡ planOf r c d g
+  unfolding planOf
+  plan-held =
+      let e : tabulate k (bufferedArray (r * c) weights counts) ≡ roundsFrom d r c d g = tabulate-getD (roundsFrom d r c d g) k _ _ (count-is t p) held-is in
+      rw e refl

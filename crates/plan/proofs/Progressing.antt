@@ -3,7 +3,8 @@ use mathlib.Core.Path.{_≡_, refl, sym, ap, subst, _∙_}
 use mathlib.Core.Bool.{Bool, true}
 use mathlib.Core.List.{List, [], _∷_, _++_, map, append-nil, append-assoc}
 use Prim.Native.Nat.{ℕ, zero, suc, _+_, _-_, _*_, _/_, _≤_, _<_}
-use native.Mathlib.Nat.{div-add-mod', add-mul, mul-comm}
+use native.Mathlib.Nat.{div-add-mod', add-mul, mul-comm, le-refl}
+use native.Mathlib.Decide.{decLt}
 use native.Mathlib.Omega.{arith}
 use lib.ListN.{length, length-append}
 use lib.Dec.{eqb}
@@ -17,6 +18,7 @@ use Rattle.base.proofs.Lists.{all-append, and-both, all-of-members}
 use Rattle.table.proofs.Roundings.{rest-le, rounds}
 use Rattle.rounding.specs.Rounding.{isRounding, IsFirst, firstRounding}
 use Rattle.rounding.proofs.Roundings.{rounding-length}
+use Rattle.rounding.proofs.Existence.{first-exists}
 use Rattle.form.specs.Plan.{Weighted}
 use Rattle.plan.specs.Rounds.{weightOf, without, roundsFrom, IsRound, AreRounds}
 use Rattle.plan.specs.Progress.{Progress}
@@ -59,7 +61,10 @@ module _ (a : Weighted) (l : List Weighted) where
   all-one-more f h k = all-append f l (a ∷ []) ∙ and-both h (and-both k refl)
 
 module _ {r c d : ℕ} {g : List ℕ} {w k : ℕ} {left : List ℕ} {done : List Weighted} (p : Progress r c d g w k left done)
-    (wp : 0 < w) (f : IsFirst r c w left (firstRounding r c w left)) where
+    (wp : 0 < w) where
+  f : IsFirst r c w left (firstRounding r c w left)
+  f = first-exists (p .shape) wp
+
   unfoldable pub nextArray : List ℕ
   nextArray = firstRounding r c w left
 
@@ -138,3 +143,25 @@ progress-end {r} {c} {d} {g} {k} {left} {done} p = p .rounds ∙ ap (λ (l : Lis
 pub end-rounds : {r c d : ℕ} {g : List ℕ} {k : ℕ} {left : List ℕ} {done : List Weighted} → Progress r c d g 0 k left done → AreRounds r c d g (roundsFrom d r c d g)
 unfolding AreRounds
 end-rounds {r} {c} {d} {g} {k} {left} {done} p = subst (AreRounds r c d g) (append-nil done ∙ sym (progress-end p)) (p .are-rounds [] refl)
+
+-- the rounds until no weight is left
+pub record End (r c d : ℕ) (g : List ℕ) : Type 0 where
+  pub arrays : ℕ
+  pub left : List ℕ
+  pub done : List Weighted
+  pub progress : Progress r c d g 0 arrays left done
+
+at-end : {r c d : ℕ} {g : List ℕ} {w k : ℕ} {left : List ℕ} {done : List Weighted} → w ≡ 0 → Progress r c d g w k left done → End r c d g
+at-end {r} {c} {d} {g} {k = k} {left} {done} e p =
+    record { arrays = k; left = left; done = done; progress = subst (λ (x : ℕ). Progress r c d g x k left done) e p }
+
+to-end : (fuel : ℕ) {r c d : ℕ} {g : List ℕ} {w k : ℕ} {left : List ℕ} {done : List Weighted} → w ≤ fuel → Progress r c d g w k left done → End r c d g
+to-end zero h p = at-end (omega arith) p
+to-end (suc fuel) {r} {c} {d} {g} {w} h p = go (decLt 0 w) (λ q. to-end fuel (omega (arith, low-weight p q)) (progress-step p q))
+  where
+    go : Dec (0 < w) → (0 < w → End r c d g) → End r c d g
+    go (yes q) next = next q
+    go (no n) next = at-end (omega arith) p
+
+pub ended : {r c d : ℕ} {g : List ℕ} → IsTable r c d g → End r c d g
+ended {d = d} t = to-end d (le-refl d) (progress-start t)

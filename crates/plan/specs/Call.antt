@@ -1,13 +1,15 @@
 -- The call "plan" (01, "Stored plan, form 1" and "Turned back": 1, 2, 3, 4, 7). Assumes nothing.
+use mathlib.Core.Path.{_≡_}
 use mathlib.Core.List.{List, [], _∷_, _++_}
 use mathlib.Core.Option.{Option}
 use Prim.Native.Nat.{ℕ, _<_, _≤_}
 use lib.ListN.{length}
 use lib.Dec.{ltb}
+use Rattle.base.specs.Buffers.{written}
 use Rattle.refusals.specs.Numbers.{numberOf}
 use Rattle.refusals.specs.declared.Refusal.{Refusal}
 use Rattle.refusals.specs.declared.Refusal.the-variants.{Buffer}
-use Rattle.refusals.specs.Due.{Test, refuse, due, refusedOr}
+use Rattle.refusals.specs.Due.{Test, refuse, due, refusedOr, after}
 use Rattle.table.specs.Check.{tableTests}
 use Rattle.form.specs.Form.{minLength, encode}
 use Rattle.plan.specs.declared.Planned.{Planned}
@@ -29,6 +31,12 @@ planRefusal r c d g room = due (planTests r c d g room)
 -- "Planning writes this form at the start of the lent buffer and returns the length"
 unfoldable pub planAnswer : ℕ → ℕ → ℕ → List ℕ → ℕ → Planned
 planAnswer r c d g room = refusedOr Refused (Length (length (planBytes r c d g))) (planRefusal r c d g room)
+
+-- what the call is held to, with a buffer that holds `old`: its answer p, and what the buffer holds afterwards.
+-- "On a refusal every lent buffer [..] keeps its contents."
+pub record PlanAnswers (r c d : ℕ) (g old : List ℕ) (p : Planned) (new : List ℕ) : Type 0 where
+  pub answer : p ≡ planAnswer r c d g (length old)
+  pub buffer : new ≡ after (planRefusal r c d g (length old)) (written (planBytes r c d g) old) old
 
 -- the number returned: the length (30 or more), or the refusal's
 abbrev pub plannedNumber : Planned → ℕ

@@ -8,7 +8,7 @@ use Rattle.grid.specs.Grid.{gridOf}
 use Rattle.table.specs.Table.{maxArrays, maxDenominator, maxEntry}
 use Rattle.table.specs.Whole.{roundsTo}
 use Rattle.table.specs.Shape.{Shape, IsTable}
-use Rattle.rounding.specs.Rounding.{IsFirst, firstRounding}
+use Rattle.rounding.specs.Rounding.{firstRounding}
 use Rattle.rounding.specs.Lines.{IsGrid}
 use Rattle.form.specs.Plan.{Weighted, arrayAt}
 use Rattle.plan.specs.Rounds.{limitOf, weightOf, without}
@@ -64,7 +64,6 @@ pub record RoundReady (w : ℕ) (e n : List ℕ) : Type 0 where
 
 -- one round: for the table that has the entries e, n has the array's, x is its weight, and e' has the entries of what is left
 pub record RoundDone (w : ℕ) (e n : List ℕ) (x : ℕ) (e' : List ℕ) : Type 0 where
-  pub first : (r c : ℕ) (g : List ℕ) → Shape r c g → e ≡ gridOf r c g → IsFirst r c w g (firstRounding r c w g)
   pub array : (r c : ℕ) (g : List ℕ) → Shape r c g → e ≡ gridOf r c g → n ≡ gridOf r c (firstRounding r c w g)
   pub weight : (r c : ℕ) (g : List ℕ) → Shape r c g → e ≡ gridOf r c g → x ≡ weightOf r c w g (firstRounding r c w g)
   pub left : (r c : ℕ) (g : List ℕ) → Shape r c g → e ≡ gridOf r c g → e' ≡ gridOf r c (without x (firstRounding r c w g) g)

@@ -2,21 +2,16 @@
 use mathlib.Core.Path.{_≡_}
 use mathlib.Core.Bool.{true}
 use mathlib.Core.List.{List, map}
-use mathlib.Core.Option.{none}
 use Prim.Native.Nat.{ℕ, _+_, _*_, _≤_}
 use lib.ListN.{length}
 use lib.Dec.{leb}
 use Rattle.base.specs.Lists.{sum, all}
-use Rattle.base.specs.Buffers.{written}
-use Rattle.refusals.specs.Due.{after}
 use Rattle.table.specs.Table.{total, maxArrays}
-use Rattle.table.specs.Check.{tableRefusal}
 use Rattle.rounding.specs.Rounding.{isRounding}
 use Rattle.form.specs.Form.{minLength, maxLength, planLength, decode}
 use Rattle.opening.specs.Open.{Opens}
 use Rattle.plan.specs.Rounds.{planOf, AreRounds, notWhole}
-use Rattle.plan.specs.declared.Planned.{Planned}
-use Rattle.plan.specs.Call.{planBytes, planRefusal, planAnswer}
+use Rattle.plan.specs.Call.{planBytes}
 
 pub record Promises (r c d : ℕ) (g : List ℕ) : Type 0 where
   -- each array is the first, in the stated order, of all controlled roundings of what is still to be given out, and has the weight of its round
@@ -38,10 +33,3 @@ pub record Promises (r c d : ℕ) (g : List ℕ) : Type 0 where
   -- it opens, to this plan
   pub opening : Opens (planBytes r c d g)
   pub decodes : decode (planBytes r c d g) ≡ planOf r c d g
-
--- what the call "plan" is held to, with a buffer that holds `old`: its answer p, what the buffer holds afterwards, and the promises of an accepted table.
--- "On a refusal every lent buffer [..] keeps its contents."
-pub record PlanAnswers (r c d : ℕ) (g old : List ℕ) (p : Planned) (new : List ℕ) : Type 0 where
-  pub answer : p ≡ planAnswer r c d g (length old)
-  pub buffer : new ≡ after (planRefusal r c d g (length old)) (written (planBytes r c d g) old) old
-  pub promises : tableRefusal r c d g ≡ none → Promises r c d g

@@ -1,10 +1,13 @@
 // The plan of a table: Ernst's rounds, and the plan in stored form 1.
 ghost use mathlib.Core.Path.{_≡_};
-ghost use mathlib.Core.List.{map};
+ghost use mathlib.Core.List.{List, map};
+ghost use mathlib.Core.Option.{none};
+ghost use Prim.Native.Nat.{ℕ};
+ghost use Rattle.table.specs.Check.{tableRefusal};
 ghost use Rattle.table.specs.Shape.{IsTable};
-ghost use Rattle.plan.specs.Call.{plannedNumber};
+ghost use Rattle.plan.specs.Call.{PlanAnswers, plannedNumber};
 ghost use Rattle.plan.specs.Examples.{limits, limited, calls, planned, said};
-ghost use Rattle.plan.specs.Promises.{PlanAnswers};
+ghost use Rattle.plan.specs.Promises.{Promises};
 use crate::rounds::rounds;
 use base::convert::u64_to_u32;
 use form::Sizes;
@@ -76,8 +79,9 @@ pub fn planned_number(r: Planned) -> u32
     }
 }
 
-// The literal cases are as stated: limits, and calls, with 7 beside each other refusal.
+// What the plan of every accepted table keeps; and the literal cases are as stated: limits, and calls, with 7 beside each other refusal.
 pub fn claims()
+    ensures promises { λ _. ⌜ ((r c d : ℕ) (g : List ℕ) → tableRefusal r c d g ≡ none → Promises r c d g) ⌝ }
     ensures limits { λ _. ⌜ map limited limits ≡ map (λ x. x .limit) limits ⌝ }
     ensures calls { λ _. ⌜ map planned calls ≡ map said calls ⌝ }
 {}

@@ -2,7 +2,7 @@
 use mathlib.Core.Path.{_≡_, ap, _∙_}
 use mathlib.Core.Bool.{true}
 use mathlib.Core.List.{List}
-use mathlib.Core.Option.{Option, some, none}
+use mathlib.Core.Option.{some, none}
 use Prim.Native.Nat.{ℕ, _+_, _*_, _/_, _%_, _<_, _≤_}
 use native.Mathlib.Nat.{div-le-of-le-mul, mul-comm}
 use native.Mathlib.Omega.{arith}
@@ -12,9 +12,6 @@ use Rattle.grid.specs.Grid.{gridAt, gridOf}
 use Rattle.table.specs.Shape.{Shape, IsTable}
 use Rattle.base.specs.Fill.{Filled}
 use Rattle.base.specs.Buffers.{written}
-use Rattle.refusals.specs.declared.Answer.the-variants.{Refused}
-use Rattle.refusals.specs.Due.{Answers}
-use Rattle.refusals.proofs.Dues.{refused-so}
 use Rattle.table.specs.Check.{checkOf}
 use Rattle.table.specs.declared.Table.{Table}
 use Rattle.refusals.specs.declared.Refusal.{Refusal}
@@ -31,8 +28,9 @@ use Rattle.table.proofs.EntryBounds.{cell-at-most}
 use Rattle.grid.proofs.GridBounds.{grid-small}
 use Rattle.table.proofs.Roundings.{gap-le, rounds-high}
 use Rattle.base.proofs.Filling.{filled-written}
-use Rattle.rounding.specs.Rounding.{isRounding, IsFirst, firstRounding}
-use Rattle.rounding.specs.Lines.{gridCell, IsGrid, RoundedGrid, Ready, FirstWritten}
+use Rattle.rounding.specs.Rounding.{isRounding, firstRounding}
+use Rattle.rounding.specs.Lines.{gridCell, IsGrid, RoundedGrid, Ready}
+use Rattle.rounding.proofs.Existence.{first-exists}
 use Rattle.rounding.specs.Call.{roundRefusal}
 use Rattle.rounding.proofs.Roundings.{rounding-length, rounding-grid}
 
@@ -77,15 +75,17 @@ module _ {r c d : ℕ} {g : List ℕ} (t : IsTable r c d g) where
     array : List ℕ
     array = firstRounding r c d g
 
-    pub array-first : IsFirst r c d g (firstRounding r c d g)
-    array-first = o .first r c g (t .shape) is
+    array-rounds : isRounding r c d g array ≡ true
+    unfolding array
+    array-rounds = first-exists (t .shape) (t .some-denominator) .rounding
 
     array-shape : Shape r c array
     unfolding array
-    array-shape = shape-of (t .shape) array (rounding-length (t .shape) d array (array-first .rounding))
+    array-shape = shape-of (t .shape) array (rounding-length (t .shape) d array array-rounds)
 
     pub cells-ready : (room : ℕ) → r * c ≤ room → Ready n r c room 0
-    cells-ready room h = rounding-ready _ (array-first .rounding) (o .is r c g (t .shape) is) (omega arith)
+    unfolding array
+    cells-ready room h = rounding-ready _ array-rounds (o .is r c g (t .shape) is) (omega arith)
 
     pub rounding-written : {old new : List ℕ} → r * c ≤ length old → Filled (gridCell n c) 0 old new (r * c) → new ≡ written (firstRounding r c d g) old
     unfolding array
@@ -115,10 +115,5 @@ module _ (r c d : ℕ) (g : List ℕ) (room : ℕ) {k : Checked} (e : k ≡ chec
     unfolding roundRefusal
     enough l = refused-nothing r c d g room (r * c) (told .nothing-due) (rw (told .sizes) at l)
 
-    pub done : (old new : List ℕ)
-        → FirstWritten (t .rows) (t .columns) (t .denominator) g old new → FirstWritten r c d g old new
+    pub done : (old new : List ℕ) → new ≡ written (firstRounding (t .rows) (t .columns) (t .denominator) g) old → new ≡ written (firstRounding r c d g) old
     done old new f = rw (told .sizes) at f
-
--- a call that is refused promises nothing else
-pub refused-first : {o : Option Refusal} {x : Refusal} {new old : List ℕ} {A : Type 0} → o ≡ some x → Answers o new old (Refused x) old × (o ≡ none → A)
-refused-first h = (refused-so h, λ n. absurd (let z : _≡_ {A = ℕ} 0 1 = cc in omega arith))

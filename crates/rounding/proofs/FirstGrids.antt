@@ -1,4 +1,4 @@
--- The first matrix of bits gives the first controlled rounding. Assumes nothing.
+-- A matrix of bits gives a controlled rounding, and the first matrix the first of them. Assumes nothing.
 use mathlib.Core.Path.{_≡_, sym, ap, _∙_}
 use mathlib.Core.Bool.{true}
 use mathlib.Core.List.{List}
@@ -75,27 +75,28 @@ module _ {r c : ℕ} {g : List ℕ} (s : Shape r c g) (w : ℕ) (wp : 0 < w) (ca
         ∙ sym (one-mul _);
   }
 
-  module _ (b : List ℕ) (f : FirstMatrix cap rows cols b) where
-    le : (p q : ℕ) → p < 13 → q < 13 → at b p q ≤ gap w (e p q)
-    le p q hp hq = omega (arith, f .matrix .le p q hp hq, caps p q hp hq)
+  -- and a matrix of 0 and 1 gives a controlled rounding
+  module _ (b : Grid) (f : Matrix 1 cap rows cols b) where
+    le : (p q : ℕ) → p < 13 → q < 13 → b p q ≤ gap w (e p q)
+    le p q hp hq = omega (arith, f .le p q hp hq, caps p q hp hq)
 
     unfoldable pub m : Grid
-    m = counts w e (at b)
+    m = counts w e b
 
     m-rows : LineSums m
     unfolding m
-    m-rows = counts-sums w e (at b) le (λ p hp. f .matrix .row p hp ∙ one-mul _) row-need
+    m-rows = counts-sums w e b le (λ p hp. f .row p hp ∙ one-mul _) row-need
 
     m-columns : LineSums (turned m)
     unfolding m
     m-columns =
-        let t = counts-sums w (turned e) (turned (at b)) (λ p q hp hq. le q p hq hp) (λ q hq. f .matrix .col q hq ∙ one-mul _) col-need in
-        let same : (p q : ℕ) → counts w (turned e) (turned (at b)) q p ≡ counts w e (at b) p q = counts-turned w e (at b) le in
+        let t = counts-sums w (turned e) (turned b) (λ p q hp hq. le q p hq hp) (λ q hq. f .col q hq ∙ one-mul _) col-need in
+        let same : (p q : ℕ) → counts w (turned e) (turned b) q p ≡ counts w e b p q = counts-turned w e b le in
         record { line = λ q hq. sym (same 12 q) ∙ t .line q hq ∙ sum-ext 12 _ _ (λ p h. same p q) }
 
     m-between : Between w e m
     unfolding m
-    m-between = counts-between w e (at b) le
+    m-between = counts-between w e b le
 
     pub n : List ℕ
     n = tabulate (r * c) (λ k. m (k / c) (k % c))
@@ -131,12 +132,13 @@ module _ {r c : ℕ} {g : List ℕ} (s : Shape r c g) (w : ℕ) (wp : 0 < w) (ca
     pub n-grid : (p q : ℕ) → p < 13 → q < 13 → gridAt r c n p q ≡ m p q
     n-grid = sums-agree (gridAt r c n) m (grid-rows n-shape) (grid-columns n-shape) m-rows m-columns cells-same
 
-    n-rounding : isRounding r c w g n ≡ true
+    pub n-rounding : isRounding r c w g n ≡ true
     n-rounding = grid-rounding s w n (n-shape .cells)
         (λ p q hp hq. rw (n-grid p q hp hq) (rounds w (e p q) (m p q) (m-between .low p q hp hq) (m-between .high p q hp hq)))
 
-    -- a rounding that comes before it would be a matrix with a smaller bit
-    module _ (k : List ℕ) (h : isRounding r c w g k ≡ true) where
+    -- if the matrix is the first, a rounding that comes before this one would be a matrix with a smaller bit
+    module _ (least : (x : Grid) → Matrix 1 cap rows cols x → (i : ℕ) → i < 144 → ((l : ℕ) → l < i → nthCell x l ≡ nthCell b l) → nthCell b i ≤ nthCell x i)
+        (k : List ℕ) (h : isRounding r c w g k ≡ true) where
       k-shape : Shape r c k
       k-shape = shape-of s k (rounding-length s w k h)
 
@@ -157,7 +159,7 @@ module _ {r c : ℕ} {g : List ℕ} (s : Shape r c g) (w : ℕ) (wp : 0 < w) (ca
       unfolding k-bits bits
       k-bit p q hp hq = kind-cell p q _ _ hp hq
 
-      m-count : (p q : ℕ) → p < 12 → q < 12 → m p q ≡ down w (e p q) + at b p q
+      m-count : (p q : ℕ) → p < 12 → q < 12 → m p q ≡ down w (e p q) + b p q
       unfolding m counts
       m-count p q hp hq = kind-cell p q _ _ hp hq
 
@@ -186,7 +188,7 @@ module _ {r c : ℕ} {g : List ℕ} (s : Shape r c g) (w : ℕ) (wp : 0 < w) (ca
             go (yes x) (no y) = outside k-shape p q hp hq (λ _ z. y z) ∙ sym (m-outside p q hp hq (λ _ z. y z))
             go (no x) y = outside k-shape p q hp hq (λ z _. x z) ∙ sym (m-outside p q hp hq (λ z _. x z))
 
-        bits-same : (i : ℕ) → i < rank 12 12 row column → nthCell k-bits i ≡ nthCell (at b) i
+        bits-same : (i : ℕ) → i < rank 12 12 row column → nthCell k-bits i ≡ nthCell b i
         bits-same i l =
             let h : i < 144 = omega (arith, rank-below row-below column-below) in
             let hp : nthRow 12 12 i < 12 = nth-row (omega arith) (omega arith) i h in
@@ -196,11 +198,14 @@ module _ {r c : ℕ} {g : List ℕ} (s : Shape r c g) (w : ℕ) (wp : 0 < w) (ca
 
         contradiction : ⊥
         contradiction =
-            let least = f .first k-bits k-matrix (rank 12 12 row column) (rank-below row-below column-below) bits-same in
-            let z : at b row column ≤ k-bits row column = rw (rank-row row-below column-below, rank-column row-below column-below) at least in
+            let low = least k-bits k-matrix (rank 12 12 row column) (rank-below row-below column-below) bits-same in
+            let z : b row column ≤ k-bits row column = rw (rank-row row-below column-below, rank-column row-below column-below) at low in
             let kc : gridAt r c k row column ≡ getD k (row * c + column) 0 = cell-at k-shape row column (d .row-inside) (d .column-inside) in
             let nc : getD n (row * c + column) 0 ≡ m row column = n-at row column (d .row-inside) (d .column-inside) in
             omega (arith, d .less, k-bit row column row-below column-below, m-count row column row-below column-below, k-between .low row column (omega arith) (omega arith))
 
-    pub first : IsFirst r c w g n
-    first = record { rounding = n-rounding; first = λ k h bf. contradiction k h (before-at s k n bf) }
+  pub first : (b : List ℕ) (f : FirstMatrix cap rows cols b) → IsFirst r c w g (n (at b) (f .matrix))
+  first b f = record {
+    rounding = n-rounding (at b) (f .matrix);
+    first = λ k h bf. contradiction (at b) (f .matrix) (f .first) k h (before-at s k (n (at b) (f .matrix)) bf);
+  }

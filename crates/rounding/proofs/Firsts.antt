@@ -33,7 +33,7 @@ pub record FirstWithin (test : List ℕ → Bool) (cs : List Choice) (n : List �
   pub within : Within cs n
   pub first : (k : List ℕ) → Within cs k → test k ≡ true → Smaller k n → ⊥
 
-abbrev Answer : (List ℕ → Bool) → List Choice → Option (List ℕ) → Type 0
+abbrev pub Answer : (List ℕ → Bool) → List Choice → Option (List ℕ) → Type 0
 Answer test cs (some n) = FirstWithin test cs n
 Answer test cs none = (k : List ℕ) → Within cs k → test k ≡ true → ⊥
 
@@ -73,7 +73,7 @@ last test false e = none-passes
     none-passes [] w t = false≢true (sym e ∙ t)
     none-passes (x ∷ k) w t = w
 
-answer : (test : List ℕ → Bool) (cs : List Choice) → Ordered cs → Answer test cs (firstOf test cs)
+pub answer : (test : List ℕ → Bool) (cs : List Choice) → Ordered cs → Answer test cs (firstOf test cs)
 unfolding firstOf
 answer test [] o = last test (test []) refl
 answer test (c ∷ cs) o =

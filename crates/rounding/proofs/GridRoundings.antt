@@ -62,7 +62,7 @@ module _ {e : List ℕ} (i : IsGrid e) {w : ℕ} (wp : 0 < w) {low high cap : Li
         needs-columns = line-needs wp (laid-columns s is t (i .small)) cols nc
 
         array : List ℕ
-        array = n s w wp cap rows cols gaps needs-rows needs-columns b fm
+        array = n s w wp cap rows cols gaps needs-rows needs-columns (at b) (fm .matrix)
 
         array-first : IsFirst r c w g array
         unfolding array
@@ -70,9 +70,6 @@ module _ {e : List ℕ} (i : IsGrid e) {w : ℕ} (wp : 0 < w) {low high cap : Li
 
         is-array : firstRounding r c w g ≡ array
         is-array = first-is s w array array-first
-
-        pub found-first : IsFirst r c w g (firstRounding r c w g)
-        found-first = rw is-array array-first
 
         same : (k : ℕ) → k < 169 → countAt low high b k ≡ getD (gridOf r c array) k 0
         unfolding array m counts
@@ -82,11 +79,11 @@ module _ {e : List ℕ} (i : IsGrid e) {w : ℕ} (wp : 0 < w) {low high cap : Li
             let place : k / 13 * 13 + k % 13 ≡ k = omega arith in
             let lo : getD low k 0 ≡ down w (gridAt r c g (k / 13) (k % 13)) = rw place at (down-at s is t (i .small) (k / 13) (k % 13) p q) in
             let hi : getD high k 0 ≡ up w (gridAt r c g (k / 13) (k % 13)) = rw place at (up-at s is t (i .small) (k / 13) (k % 13) p q) in
-            let there = grid-at r c array (k / 13) (k % 13) p q ∙ n-grid s w wp cap rows cols gaps needs-rows needs-columns b fm (k / 13) (k % 13) p q in
+            let there = grid-at r c array (k / 13) (k % 13) p q ∙ n-grid s w wp cap rows cols gaps needs-rows needs-columns (at b) (fm .matrix) (k / 13) (k % 13) p q in
             rw (lo, hi) (sym (rw place at there))
 
         pub rounded : out ≡ gridOf r c (firstRounding r c w g)
         rounded = rw is-array (o ∙ tabulate-getD (gridOf r c array) 169 0 (countAt low high b) (length-grid r c array) same)
 
       pub rounded-grid : {out : List ℕ} → out ≡ tabulate 169 (countAt low high b) → RoundedGrid w e out
-      rounded-grid o = record { first = found-first o; is = rounded o }
+      rounded-grid o = record { is = rounded o }

@@ -10,4 +10,5 @@ pub mod GridRoundings
 pub mod PartLoops
 pub mod CellWrites
 pub mod Calls
+pub mod Existence
 pub mod Examples

@@ -1,9 +1,9 @@
 -- Controlled roundings, at each place of the grid; and the search finds the first. Assumes nothing.
 use mathlib.Core.Path.{_≡_, sym, ap, _∙_}
 use mathlib.Core.Logic.{_⊎_, inl, inr}
-use mathlib.Core.Bool.{true}
+use mathlib.Core.Bool.{Bool, true}
 use mathlib.Core.List.{List, [], _∷_, map}
-use mathlib.Core.Option.{Option}
+use mathlib.Core.Option.{Option, some, none}
 use Prim.Native.Nat.{ℕ, suc, _+_, _*_, _<_, suc-le-suc}
 use native.Mathlib.Nat.{div-le-self}
 use native.Mathlib.Decide.{ℕ-discrete}
@@ -24,8 +24,8 @@ use Rattle.grid.proofs.GridSums.{cell-at}
 use Rattle.grid.proofs.GridTests.{entries-grid, grid-entries}
 use Rattle.table.proofs.Roundings.{gap-le, rounds, rounds-low, rounds-high}
 use Rattle.rounding.specs.Rounding.{isRounding, IsFirst, choice, found, firstRounding}
-use Rattle.rounding.specs.Order.{inOrder, arrayOf}
-use Rattle.rounding.proofs.Firsts.{Within, Ordered, within-length, found-first}
+use Rattle.rounding.specs.Order.{Choice, inOrder, arrayOf, firstOf}
+use Rattle.rounding.proofs.Firsts.{Within, Ordered, Answer, within-length, answer, found-first}
 use Rattle.rounding.proofs.Orders.{length-in-order, in-order-at, array-of-order, order-of-array}
 
 module _ {r c : ℕ} {g : List ℕ} (s : Shape r c g) (w : ℕ) (n : List ℕ) where
@@ -92,3 +92,24 @@ module _ {r c : ℕ} {g : List ℕ} (s : Shape r c g) (w : ℕ) where
         first = λ l m h b. f .first (arrayOf r c l) h (rw (order-of-array s l (made-length l m)) b);
       }))
       ∙ back
+
+  -- if there is not none, the search gives the first
+  pub not-none-first : (((n : List ℕ) → isRounding r c w g n ≡ true → ⊥) → ⊥) → IsFirst r c w g (firstRounding r c w g)
+  unfolding firstRounding
+  not-none-first some-one = go (firstOf test choices) (answer test choices (ordered w (inOrder r c g)))
+    where
+      choices : List Choice
+      choices = map (choice w) (inOrder r c g)
+
+      test : List ℕ → Bool
+      test l = isRounding r c w g (arrayOf r c l)
+
+      passes : (n : List ℕ) → isRounding r c w g n ≡ true → test (inOrder r c n) ≡ true
+      passes n h = rw (array-of-order s n (rounding-length s w n h)) h
+
+      go : (u : Option (List ℕ)) → Answer test choices u → IsFirst r c w g (arrayOf r c (found u))
+      go none a = absurd (some-one (λ n h. a (inOrder r c n) (made-of n h) (passes n h)))
+      go (some l) a = record {
+        rounding = a .passes;
+        first = λ k h b. a .first (inOrder r c k) (made-of k h) (passes k h) (rw (order-of-array s l (made-length l (a .within))) at b);
+      }

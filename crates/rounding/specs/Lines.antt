@@ -6,12 +6,11 @@ use Prim.Native.Nat.{ℕ, _+_, _-_, _*_, _/_, _%_, _<_, _≤_}
 use lib.ListN.{length, getD}
 use lib.Dec.{eqb}
 use Rattle.base.specs.Lists.{tabulate, sumTo}
-use Rattle.base.specs.Buffers.{written}
 use Rattle.table.specs.Table.{maxEntry}
 use Rattle.grid.specs.Grid.{gridPlace, gridOf}
 use Rattle.table.specs.Whole.{down, up, gap}
 use Rattle.table.specs.Shape.{Shape, IsTable}
-use Rattle.rounding.specs.Rounding.{IsFirst, firstRounding}
+use Rattle.rounding.specs.Rounding.{firstRounding}
 
 -- one of two numbers: the first at a cell and at the grand total, the second at a total of a row or a column
 unfoldable pub kind : ℕ → ℕ → ℕ → ℕ → ℕ
@@ -98,20 +97,14 @@ pub record GridReady (w : ℕ) (e n : List ℕ) : Type 0 where
   pub some : 0 < w
   pub len : length n ≡ 169
 
--- every table that has the entries e has a first controlled rounding, and n has that rounding's entries
+-- of every table that has the entries e, n has the entries of the first controlled rounding
 pub record RoundedGrid (w : ℕ) (e n : List ℕ) : Type 0 where
-  pub first : (r c : ℕ) (g : List ℕ) → Shape r c g → e ≡ gridOf r c g → IsFirst r c w g (firstRounding r c w g)
   pub is : (r c : ℕ) (g : List ℕ) → Shape r c g → e ≡ gridOf r c g → n ≡ gridOf r c (firstRounding r c w g)
 
 -- what the rounding of an accepted table into a buffer needs
 pub record TableReady (r c w : ℕ) (g counts : List ℕ) : Type 0 where
   pub table : IsTable r c w g
   pub room : r * c ≤ length counts
-
--- the table has a first controlled rounding, and it is written
-pub record FirstWritten (r c w : ℕ) (g old new : List ℕ) : Type 0 where
-  pub first : IsFirst r c w g (firstRounding r c w g)
-  pub is : new ≡ written (firstRounding r c w g) old
 
 -- cell k, in row order, of a table of c columns that is held as a grid
 abbrev pub gridCell : List ℕ → ℕ → ℕ → ℕ

@@ -1,13 +1,15 @@
 // Controlled roundings: the first of a table, in the stated order.
 ghost use mathlib.Core.Path.{_≡_};
-ghost use mathlib.Core.List.{map};
+ghost use mathlib.Core.List.{List, map};
 ghost use mathlib.Core.Option.{none};
+ghost use Prim.Native.Nat.{ℕ};
 ghost use lib.ListN.{length};
 ghost use Rattle.refusals.specs.Due.{Answers};
 ghost use Rattle.base.specs.Buffers.{written};
+ghost use Rattle.table.specs.Check.{tableRefusal};
 ghost use Rattle.rounding.specs.Rounding.{IsFirst, firstRounding};
 ghost use Rattle.rounding.specs.Call.{roundRefusal};
-ghost use Rattle.rounding.specs.Lines.{TableReady, FirstWritten};
+ghost use Rattle.rounding.specs.Lines.{TableReady};
 ghost use Rattle.rounding.specs.Examples.{candidates, roundsTable, roundCases, rounded, said};
 use crate::first::round_grid;
 use crate::write::write_cells;
@@ -26,7 +28,7 @@ pub mod write;
 // Writes the first controlled rounding of an accepted table.
 fn write_rounding(t: Table, cells: &[u32], counts: &mut [u16])
     requires { ⌜ TableReady (t .rows) (t .columns) (t .denominator) (now cells) (now counts) ⌝ }
-    ensures { λ _. ⌜ FirstWritten (t .rows) (t .columns) (t .denominator) (now (cells .entry)) (now (counts .entry)) (now (counts .exit)) ⌝ }
+    ensures { λ _. ⌜ now (counts .exit) ≡ written (firstRounding (t .rows) (t .columns) (t .denominator) (now (cells .entry))) (now (counts .entry)) ⌝ }
 {
     let rows = t.rows;
     let columns = t.columns;
@@ -36,13 +38,10 @@ fn write_rounding(t: Table, cells: &[u32], counts: &mut [u16])
     write_cells(&n, rows, columns, counts, 0);
 }
 
-// Writes the first controlled rounding of a table, or returns the lowest refusal that applies. That one exists is promised here where the buffer has
-// room, and for every accepted table by `plan::plan`, whose first array it is (`Promises`).
+// Writes the first controlled rounding of a table, or returns the lowest refusal that applies.
 pub fn round(rows: u32, columns: u32, denominator: u32, cells: &[u32], counts: &mut [u16]) -> Answer
-    ensures answers { λ r. ⌜ Answers (roundRefusal rows columns denominator (now (cells .entry)) (length (now (counts .entry))))
+    ensures { λ r. ⌜ Answers (roundRefusal rows columns denominator (now (cells .entry)) (length (now (counts .entry))))
         (written (firstRounding rows columns denominator (now (cells .entry))) (now (counts .entry))) (now (counts .entry)) r (now (counts .exit)) ⌝ }
-    ensures exists { λ _. ⌜ (roundRefusal rows columns denominator (now (cells .entry)) (length (now (counts .entry))) ≡ none
-        → IsFirst rows columns denominator (now (cells .entry)) (firstRounding rows columns denominator (now (cells .entry)))) ⌝ }
 {
     let checked = check(rows, columns, denominator, cells);
     match checked {
@@ -57,8 +56,10 @@ pub fn round(rows: u32, columns: u32, denominator: u32, cells: &[u32], counts: &
     }
 }
 
-// The literal cases are as stated: arrays that are controlled roundings and arrays that are not, and calls, with 7 beside each other refusal.
+// Every accepted table has a controlled rounding, and what the call writes is the first of them; and the literal cases are as stated: arrays that are
+// controlled roundings and arrays that are not, and calls, with 7 beside each other refusal.
 pub fn claims()
+    ensures exists { λ _. ⌜ ((r c d : ℕ) (g : List ℕ) → tableRefusal r c d g ≡ none → IsFirst r c d g (firstRounding r c d g)) ⌝ }
     ensures candidates { λ _. ⌜ map roundsTable candidates ≡ map (λ x. x .rounds) candidates ⌝ }
     ensures calls { λ _. ⌜ map rounded roundCases ≡ map said roundCases ⌝ }
 {}

@@ -99,7 +99,7 @@ module _ (r c d : ℕ) (g : List ℕ) where
 
 -- what the answer of the check says
 module _ (r c d : ℕ) (g : List ℕ) where
-  passed-all : tableRefusal r c d g ≡ none → IsTable r c d g
+  pub passed-all : tableRefusal r c d g ≡ none → IsTable r c d g
   unfolding tableRefusal
   passed-all h =
       let t = tableTests r c d g in

@@ -16,8 +16,9 @@ use Rattle.form.specs.Form.{maxLength, laidOut, decode}
 use Rattle.opening.proofs.Opening.{opens-layout}
 use Rattle.plan.specs.declared.Planned.{Planned}
 use Rattle.plan.specs.declared.Planned.the-variants.{Length, Refused}
-use Rattle.plan.specs.Call.{planBytes, planTests, planRefusal, planAnswer}
-use Rattle.plan.specs.Promises.{PlanAnswers}
+use Rattle.plan.specs.Call.{planBytes, planTests, planRefusal, planAnswer, PlanAnswers}
+use Rattle.plan.proofs.Planning.{promised}
+use Rattle.table.proofs.Checks.{passed-all}
 use Rattle.text.specs.declared.Parsed.{Parsed}
 use Rattle.text.specs.Parsed.{parsedOf}
 use Rattle.text.specs.Text.{parse, listing, refused, refusedText, tableOutput, printed, output}
@@ -39,7 +40,7 @@ module _ {r c d : ℕ} {g old new : List ℕ} {p : Planned} (f : PlanAnswers r c
   due-so = go (tableRefusal r c d g) refl
     where
       go : (o : Option Refusal) → tableRefusal r c d g ≡ o → due (planTests r c d g (length old)) ≡ tableRefusal r c d g
-      go none e = refused-nothing r c d g (length old) _ e (omega (arith, f .promises e .len-high)) ∙ sym e
+      go none e = refused-nothing r c d g (length old) _ e (omega (arith, promised (passed-all r c d g e) .len-high)) ∙ sym e
       go (some x) e = refused-table r c d g (length old) _ x e ∙ sym e
 
   told : p ≡ refusedOr Refused (Length (length (planBytes r c d g))) (tableRefusal r c d g)
@@ -68,7 +69,7 @@ module _ {r c d : ℕ} {g old new : List ℕ} {p : Planned} (f : PlanAnswers r c
           let m : n ≡ length (planBytes r c d g) = cc in
           let q : new ≡ planBytes r c d g ++ rest = rw (due-so, e) at (f .buffer) in
           let b : take n new ≡ planBytes r c d g = ap (take n) q ∙ take-at (planBytes r c d g) rest n (sym m) in
-          let k = f .promises e in
+          let k = promised (passed-all r c d g e) in
           record {
             inside = omega (arith, m, ap length q, length-append (planBytes r c d g) rest);
             len = m ∙ ap length (sym b);

@@ -1,6 +1,10 @@
 -- `demands::claims` states what the laws of this folder prove.
+use Rattle.table.proofs.Checks.{passed-all}
+use Rattle.plan.proofs.Planning.{promised}
 use Rattle.demands.proofs.Lowests.{each-refuses}
+use Rattle.demands.proofs.Conditions.{opens-just}
 use Rattle.demands.proofs.Campaigns.{claim}
+use Rattle.demands.proofs.Serving.{served}
 use Rattle.demands.proofs.Sentences.{few-entries, whole-limit}
 use Rattle.demands.proofs.Belongings.{belonging}
 use Rattle.demands.proofs.Examples.{examples-hold, runs-hold, slips-shut}
@@ -8,7 +12,22 @@ use Rattle.demands.proofs.claims.Statement.{statement}
 use Rattle.demands.proofs.claims.Tie as tie
 
 returns : tie.Need-returns
-returns c = (each-refuses, (claim, (few-entries, (whole-limit, (belonging, (examples-hold, (runs-hold, slips-shut)))))))
+returns k = (
+  each-refuses,
+  (
+    λ r c d g h. promised (passed-all r c d g h),
+    (
+      opens-just,
+      (
+        claim,
+        (
+          served,
+          (few-entries, (whole-limit, (belonging, (examples-hold, (runs-hold, slips-shut))))),
+        ),
+      ),
+    ),
+  ),
+)
 
 pub claims-spec : {M : Type 1} → statement M
 claims-spec = tie.close (tie.spec returns)

@@ -6,7 +6,7 @@ use Rattle.exports.proofs.lufodimi_round.Tie as tie
 
 returns : tie.Need-returns
 returns c =
-    let r = c .before .before .before .round .ensures .0 in
+    let r = c .before .before .before .round .ensures in
     (c .answer-number .ensures ∙ ap answerNumber (r .answer), r .left)
 
 pub lufodimi-round-spec : {M : Type 1} → statement M

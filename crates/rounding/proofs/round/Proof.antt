@@ -1,7 +1,7 @@
 use native.Mathlib.Omega.{arith}
 use Rattle.table.proofs.Totals.{small-product}
-use Rattle.refusals.proofs.Dues.{accepted-so}
-use Rattle.rounding.proofs.Calls.{refused, is-table, short, enough, done, refused-first}
+use Rattle.refusals.proofs.Dues.{refused-so, accepted-so}
+use Rattle.rounding.proofs.Calls.{refused, is-table, short, enough, done}
 use borrow.Author.Needs.{needs}
 use Rattle.rounding.proofs.round.Statement.{statement}
 use Rattle.rounding.proofs.round.Tie as tie
@@ -15,7 +15,7 @@ mul-if1 c =
 returns : tie.Need-returns
 returns c =
     let m = c .before .before .before in
-    refused-first (short _ _ _ _ _ (m .before .before .check .ensures) (m .checked2 .given .1) (omega arith))
+    refused-so (short _ _ _ _ _ (m .before .before .check .ensures) (m .checked2 .given .1) (omega arith))
 
 write-rounding-requires : tie.Need-write-rounding-requires
 write-rounding-requires c κs =
@@ -23,14 +23,14 @@ write-rounding-requires c κs =
     record { table = is-table _ _ _ _ 0 (m .before .before .check .ensures) (m .checked2 .given .1); room = c .before .if1 .left }
 
 returns-2 : tie.Need-returns-2
-returns-2 c = refused-first (refused _ _ _ _ _ (c .before .before .before .check .ensures) (c .before .checked .given .1))
+returns-2 c = refused-so (refused _ _ _ _ _ (c .before .before .before .check .ensures) (c .before .checked .given .1))
 
 returns-3 : tie.Need-returns-3
 returns-3 c =
     let w = c .before .before in
     let m = w .before .before .before .before .before in
-    let f = done _ _ _ _ 0 (m .before .before .check .ensures) (m .checked2 .given .1) _ _ (w .write-rounding .ensures) in
-    (accepted-so (enough _ _ _ _ _ (m .before .before .check .ensures) (m .checked2 .given .1) (omega arith)) (f .is), λ _. f .first)
+    accepted-so (enough _ _ _ _ _ (m .before .before .check .ensures) (m .checked2 .given .1) (omega arith))
+    (done _ _ _ _ 0 (m .before .before .check .ensures) (m .checked2 .given .1) _ _ (w .write-rounding .ensures))
 
 pub round-spec : {M : Type 1} → statement M
 round-spec =

@@ -1,5 +1,5 @@
 use mathlib.Core.Path.{refl}
-use Rattle.rounding.proofs.Calls.{table-grid, cells-ready, array-first, rounding-written}
+use Rattle.rounding.proofs.Calls.{table-grid, cells-ready, rounding-written}
 use borrow.Author.Needs.{needs}
 use Rattle.rounding.proofs.write_rounding.Statement.{statement}
 use Rattle.rounding.proofs.write_rounding.Tie as tie
@@ -22,10 +22,8 @@ returns c =
     let w = c .before .before in
     let g = w .before .before .before in
     let e = g .before .before .before in
-    let s = e .before .before .before in record {
-      first = array-first (s .pre .table) (e .entries .ensures) (g .round-grid .ensures);
-      is = rounding-written (s .pre .table) (e .entries .ensures) (g .round-grid .ensures) (s .pre .room) (w .write-cells .ensures);
-    }
+    let s = e .before .before .before in
+    rounding-written (s .pre .table) (e .entries .ensures) (g .round-grid .ensures) (s .pre .room) (w .write-cells .ensures)
 
 pub write-rounding-spec : {M : Type 1} → statement M
 write-rounding-spec =
