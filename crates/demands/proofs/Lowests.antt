@@ -17,6 +17,7 @@ use Rattle.refusals.proofs.Dues.{due-here, due-next, none-applies}
 use Rattle.rounding.specs.Call.{roundRefusal}
 use Rattle.plan.specs.Call.{planRefusal}
 use Rattle.opening.specs.Open.{openRefusal, drawRefusal}
+use Rattle.parts.specs.Parts.{partRefusal}
 use Rattle.campaign.specs.Record.{startRefusal, campaignRefusal}
 use Rattle.demands.specs.Refusals.{Lowest, Refuses, EachRefuses}
 
@@ -67,11 +68,12 @@ refuses : (l : List Test) → rising l ≡ true → Refuses l (due l)
 refuses l up = record { refused = lowest l up; accepted = none-applies l }
 
 pub each-refuses : EachRefuses
-unfolding rising all roundRefusal planRefusal openRefusal drawRefusal startRefusal campaignRefusal
+unfolding rising all roundRefusal planRefusal openRefusal partRefusal drawRefusal startRefusal campaignRefusal
 each-refuses = record {
   rounding = λ r c d g room. refuses _ refl;
   plan = λ r c d g room. refuses _ refl;
   opening = λ b. refuses _ refl;
+  parts = λ b need room. refuses _ refl;
   draw = λ b d room. refuses _ refl;
   start = λ b s. refuses _ refl;
   campaign-draw = λ b d s room. refuses _ refl;

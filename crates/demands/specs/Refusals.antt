@@ -10,6 +10,7 @@ use Rattle.refusals.specs.Due.{Test, refuse, noneApplies}
 use Rattle.rounding.specs.Call.{roundTests, roundRefusal}
 use Rattle.plan.specs.Call.{planTests, planRefusal}
 use Rattle.opening.specs.Open.{openTests, openRefusal, drawTests, drawRefusal}
+use Rattle.parts.specs.Parts.{partTests, partRefusal}
 use Rattle.campaign.specs.Record.{CampaignRecord, startTests, startRefusal, campaignTests, campaignRefusal}
 
 -- of the conditions of a list, that of x holds, and no condition with a lower number does
@@ -27,6 +28,8 @@ pub record EachRefuses : Type 0 where
   pub rounding : (r c d : ℕ) (g : List ℕ) (room : ℕ) → Refuses (roundTests r c d g room) (roundRefusal r c d g room)
   pub plan : (r c d : ℕ) (g : List ℕ) (room : ℕ) → Refuses (planTests r c d g room) (planRefusal r c d g room)
   pub opening : (b : List ℕ) → Refuses (openTests b) (openRefusal b)
+  -- the sizes and the table of a plan, which need a number of places
+  pub parts : (b : List ℕ) (need room : ℕ) → Refuses (partTests b need room) (partRefusal b need room)
   pub draw : (b : List ℕ) (d room : ℕ) → Refuses (drawTests b d room) (drawRefusal b d room)
   pub start : (b : List ℕ) (s : CampaignRecord) → Refuses (startTests b s) (startRefusal b s)
   pub campaign-draw : (b : List ℕ) (d : ℕ) (s : CampaignRecord) (room : ℕ) → Refuses (campaignTests b d s room) (campaignRefusal b d s room)

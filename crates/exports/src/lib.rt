@@ -7,7 +7,10 @@ ghost use Rattle.base.specs.Buffers.{written};
 ghost use Rattle.rounding.specs.Rounding.{firstRounding};
 ghost use Rattle.rounding.specs.Call.{roundRefusal};
 ghost use Rattle.plan.specs.Call.{planBytes, planRefusal, planAnswer, plannedNumber, Apart};
+ghost use Rattle.form.specs.Plan.{cellCount};
+ghost use Rattle.form.specs.Form.{decode};
 ghost use Rattle.opening.specs.Open.{openAnswer, openedNumber, drawRefusal, drawnArray};
+ghost use Rattle.parts.specs.Parts.{sizeNumbers, partRefusal};
 ghost use Rattle.campaign.specs.Record.{recordOf};
 ghost use Rattle.campaign.specs.Calls.{started, ask, made, Starts, Draws};
 
@@ -70,6 +73,28 @@ pub extern "C" fn lufodimi_draw(plan: &[u8], number: u32, counts: &mut [u16]) ->
 {
     let answer = opening::draw::draw(plan, number, counts);
     refusals::answer_number(answer)
+}
+
+// Writes a plan's sizes (rows, columns, arrays, denominator): 0, or the refusal's number.
+#[no_mangle]
+pub extern "C" fn lufodimi_sizes(plan: &[u8], sizes: &mut [u32]) -> u32
+    ensures number { λ n. ⌜ n ≡ answerNumber (answerOf (partRefusal (now (plan .entry)) 4 (length (now (sizes .entry))))) ⌝ }
+    ensures buffer { λ _. ⌜ now (sizes .exit) ≡ after (partRefusal (now (plan .entry)) 4 (length (now (sizes .entry))))
+        (written (sizeNumbers (now (plan .entry))) (now (sizes .entry))) (now (sizes .entry)) ⌝ }
+{
+    let told = parts::sizes(plan, sizes);
+    refusals::answer_number(told)
+}
+
+// Writes the cells of a plan's table: 0, or the refusal's number.
+#[no_mangle]
+pub extern "C" fn lufodimi_cells(plan: &[u8], cells: &mut [u32]) -> u32
+    ensures number { λ n. ⌜ n ≡ answerNumber (answerOf (partRefusal (now (plan .entry)) (cellCount (decode (now (plan .entry)))) (length (now (cells .entry))))) ⌝ }
+    ensures buffer { λ _. ⌜ now (cells .exit) ≡ after (partRefusal (now (plan .entry)) (cellCount (decode (now (plan .entry)))) (length (now (cells .entry))))
+        (written (decode (now (plan .entry)) .cells) (now (cells .entry))) (now (cells .entry)) ⌝ }
+{
+    let read = parts::cells(plan, cells);
+    refusals::answer_number(read)
 }
 
 // Starts a campaign: 0, or the refusal's number.

@@ -1,0 +1,68 @@
+-- Literal cases of the calls that tell a plan's sizes and cells; the plan's bytes are typed out. Assumes nothing.
+use mathlib.Core.List.{List, [], _∷_, _++_}
+use Prim.Native.Nat.{ℕ}
+use lib.ListN.{length, set}
+use Rattle.base.specs.Buffers.{written}
+use Rattle.refusals.specs.Answer.{answerNumber}
+use Rattle.refusals.specs.Due.{answerOf, after}
+use Rattle.form.specs.Plan.{cellCount}
+use Rattle.form.specs.Form.{decode}
+use Rattle.form.specs.Examples.{wide}
+use Rattle.parts.specs.Parts.{sizeNumbers, partRefusal}
+
+-- a plan and a buffer; the number that the call returns, and the buffer as it leaves it
+pub record Case : Type 0 where
+  pub plan : List ℕ
+  pub buffer : List ℕ
+  pub number : ℕ
+  pub result : List ℕ
+
+abbrev pub tells : List ℕ → List ℕ → List ℕ → Case
+tells b buffer result = record { plan = b; buffer = buffer; number = 0; result = result }
+
+abbrev pub refuses : List ℕ → List ℕ → ℕ → Case
+refuses b buffer n = record { plan = b; buffer = buffer; number = n; result = buffer }
+
+abbrev pub said : Case → List ℕ
+said x = x .number ∷ x .result
+
+-- the plan of two rows, three columns, seven arrays and D 1000 with a byte more: 5; and with a weight one too large: 6
+abbrev pub longer : List ℕ
+longer = wide ++ (0 ∷ [])
+
+abbrev pub heavy : List ℕ
+heavy = set wide 16 101
+
+abbrev pub toldSizes : Case → List ℕ
+toldSizes x =
+    let o = partRefusal (x .plan) 4 (length (x .buffer)) in
+    answerNumber (answerOf o) ∷ after o (written (sizeNumbers (x .plan)) (x .buffer)) (x .buffer)
+
+abbrev pub sizeCases : List Case
+sizeCases =
+    tells wide (8 ∷ 8 ∷ 8 ∷ 8 ∷ []) (2 ∷ 3 ∷ 7 ∷ 1000 ∷ [])
+    ∷ tells wide (8 ∷ 8 ∷ 8 ∷ 8 ∷ 9 ∷ []) (2 ∷ 3 ∷ 7 ∷ 1000 ∷ 9 ∷ [])
+    ∷ refuses wide (8 ∷ 8 ∷ 8 ∷ []) 7
+    ∷ refuses longer (8 ∷ 8 ∷ 8 ∷ 8 ∷ []) 5
+    ∷ refuses heavy (8 ∷ 8 ∷ 8 ∷ 8 ∷ []) 6
+    -- with 7
+    ∷ refuses longer [] 5
+    ∷ refuses heavy (8 ∷ 8 ∷ 8 ∷ []) 6
+    ∷ []
+
+abbrev pub toldCells : Case → List ℕ
+toldCells x =
+    let o = partRefusal (x .plan) (cellCount (decode (x .plan))) (length (x .buffer)) in
+    answerNumber (answerOf o) ∷ after o (written (decode (x .plan) .cells) (x .buffer)) (x .buffer)
+
+abbrev pub cellCases : List Case
+cellCases =
+    tells wide (8 ∷ 8 ∷ 8 ∷ 8 ∷ 8 ∷ 8 ∷ []) (300400 ∷ 70 ∷ 65936 ∷ 1500 ∷ 260 ∷ 999 ∷ [])
+    ∷ tells wide (8 ∷ 8 ∷ 8 ∷ 8 ∷ 8 ∷ 8 ∷ 9 ∷ []) (300400 ∷ 70 ∷ 65936 ∷ 1500 ∷ 260 ∷ 999 ∷ 9 ∷ [])
+    ∷ refuses wide (8 ∷ 8 ∷ 8 ∷ 8 ∷ 8 ∷ []) 7
+    ∷ refuses longer (8 ∷ 8 ∷ 8 ∷ 8 ∷ 8 ∷ 8 ∷ []) 5
+    ∷ refuses heavy (8 ∷ 8 ∷ 8 ∷ 8 ∷ 8 ∷ 8 ∷ []) 6
+    -- with 7
+    ∷ refuses longer [] 5
+    ∷ refuses heavy (8 ∷ 8 ∷ 8 ∷ 8 ∷ 8 ∷ []) 6
+    ∷ []
