@@ -1,52 +1,108 @@
-/* Plans a table, opens the plan, runs a campaign to its end, and prints what was drawn beside what was planned. */
+/* Plans which cartons to open, three shelf zones by four carton kinds, runs a whole campaign with the operating system's random numbers, and prints
+ * what was drawn beside what was planned. It prints only what no draw changes. */
+#define _DEFAULT_SOURCE
 #include "lufodimi.h"
 
+#include <stdbool.h>
 #include <stdio.h>
 #include <stdlib.h>
+#include <sys/random.h>
 
-enum { ROWS = 2, COLUMNS = 2, CELLS = ROWS * COLUMNS, DENOMINATOR = 10 };
+enum { ZONES = 3, KINDS = 4, CELLS = ZONES * KINDS, DENOMINATOR = 10, BITS = (DENOMINATOR + 7) / 8 };
 
-/* The refusal of a number that is taken. */
-enum { NUMBER_TAKEN = 10 };
+static const char *const zones[ZONES] = {"front", "middle", "cold"};
+static const char *const kinds[KINDS] = {"tablets", "ampoules", "insulin", "infusions"};
+
+/* The cartons to open in ten months, a zone a line: 45 is an expected count of 4.5 a month. */
+static const uint32_t table[CELLS] = {
+    45, 23, 0, 12,
+    31, 26, 4, 19,
+    0, 14, 52, 14,
+};
 
 /* Ends the program if a call was refused. */
 static void expect_done(const char *call, uint32_t answer)
 {
-    if (answer != 0) {
-        printf("%s: refused %u\n", call, (unsigned)answer);
+    if (answer != LUFODIMI_DONE) {
+        fprintf(stderr, "%s: refused %u\n", call, (unsigned)answer);
         exit(EXIT_FAILURE);
+    }
+}
+
+/* A random number of 32 bits of the operating system. */
+static uint32_t random_word(void)
+{
+    uint32_t word = 0;
+    if (getrandom(&word, sizeof word, 0) != (ssize_t)sizeof word) {
+        perror("getrandom");
+        exit(EXIT_FAILURE);
+    }
+    return word;
+}
+
+/* A random number below a bound, each with the same chance. The words from the highest multiple of the bound on are thrown back, since with them
+ * the low remainders would come up more often. */
+static uint32_t random_below(uint32_t bound)
+{
+    const uint32_t even = UINT32_MAX - UINT32_MAX % bound;
+    uint32_t word = random_word();
+    while (word >= even) {
+        word = random_word();
+    }
+    return word % bound;
+}
+
+/* One of the numbers that a record leaves free, each with the same chance; at least one is free. Numbers in turn would not do: an array's numbers
+ * lie side by side, so that whoever is checked could foresee the arrays. */
+static uint32_t random_free(const struct lufodimi_record *record, const uint8_t *bits)
+{
+    uint32_t before = random_below(DENOMINATOR - record->taken);
+    uint32_t number = 0;
+    for (;;) {
+        const bool taken = (bits[number / 8] >> number % 8 & 1) != 0;
+        if (!taken && before == 0) {
+            return number;
+        }
+        before -= taken ? 0 : 1;
+        number++;
     }
 }
 
 int main(void)
 {
-    static uint8_t plan[LUFODIMI_LONGEST_PLAN];
-    const uint32_t cells[CELLS] = {3, 4, 5, 6};
-    const uint32_t length = lufodimi_plan(ROWS, COLUMNS, DENOMINATOR, cells, CELLS, plan, sizeof plan);
-    if (length < 30) {
-        printf("plan: refused %u\n", (unsigned)length);
-        return EXIT_FAILURE;
+    static uint8_t plan[LUFODIMI_LONGEST_PLAN] = {0};
+    const uint32_t length = lufodimi_plan(ZONES, KINDS, DENOMINATOR, table, CELLS, plan, sizeof plan);
+    if (length < LUFODIMI_SHORTEST_PLAN) {
+        expect_done("plan", length);
     }
-    printf("a plan of %u bytes\n", (unsigned)length);
     expect_done("open", lufodimi_open(plan, length));
+    uint32_t sizes[LUFODIMI_SIZES] = {0};
+    expect_done("sizes", lufodimi_sizes(plan, length, sizes, LUFODIMI_SIZES));
+    printf("a plan of %u bytes: %u zones by %u kinds, %u arrays, %u draws\n", (unsigned)length,
+           (unsigned)sizes[0], (unsigned)sizes[1], (unsigned)sizes[2], (unsigned)sizes[3]);
 
-    struct lufodimi_record record;
-    uint8_t bits[(DENOMINATOR + 7) / 8];
-    uint32_t tally[CELLS];
-    uint16_t counts[CELLS];
-    expect_done("start", lufodimi_start(plan, length, &record, bits, sizeof bits, tally, CELLS));
-    for (uint32_t drawn = 0; drawn < DENOMINATOR; drawn++) {
-        const uint32_t number = drawn * 7 % DENOMINATOR;
-        expect_done("draw", lufodimi_campaign_draw(plan, length, number, &record, bits, sizeof bits, tally, CELLS, counts, CELLS));
-        printf("number %u: %u %u %u %u\n", (unsigned)number, counts[0], counts[1], counts[2], counts[3]);
+    struct lufodimi_record record = {0};
+    uint8_t bits[BITS] = {0};
+    uint32_t tally[CELLS] = {0};
+    uint32_t drawn[CELLS] = {0};
+    expect_done("start", lufodimi_start(plan, length, &record, bits, BITS, tally, CELLS));
+    uint32_t number = 0;
+    while (record.taken < DENOMINATOR) {
+        uint16_t counts[CELLS] = {0};
+        number = random_free(&record, bits);
+        expect_done("draw", lufodimi_campaign_draw(plan, length, number, &record, bits, BITS, tally, CELLS, counts, CELLS));
+        for (int cell = 0; cell < CELLS; cell++) {
+            drawn[cell] += counts[cell];
+        }
     }
-    const uint32_t again = lufodimi_campaign_draw(plan, length, 3, &record, bits, sizeof bits, tally, CELLS, counts, CELLS);
-    printf("%u numbers taken; number 3 again: %u\n", (unsigned)record.taken, (unsigned)again);
-    if (again != NUMBER_TAKEN) {
-        return EXIT_FAILURE;
-    }
+
+    uint16_t counts[CELLS] = {0};
+    const uint32_t again = lufodimi_campaign_draw(plan, length, number, &record, bits, BITS, tally, CELLS, counts, CELLS);
+    printf("%u numbers taken; the last one once more: %s\n", (unsigned)record.taken, again == LUFODIMI_TAKEN ? "refused, it is taken" : "not refused");
+    bool exact = again == LUFODIMI_TAKEN;
     for (int cell = 0; cell < CELLS; cell++) {
-        printf("cell %d: drawn %u, planned %u\n", cell + 1, (unsigned)tally[cell], (unsigned)cells[cell]);
+        printf("%s, %s: drawn %u, planned %u\n", zones[cell / KINDS], kinds[cell % KINDS], (unsigned)drawn[cell], (unsigned)table[cell]);
+        exact = exact && drawn[cell] == table[cell] && tally[cell] == table[cell];
     }
-    return EXIT_SUCCESS;
+    return exact ? EXIT_SUCCESS : EXIT_FAILURE;
 }

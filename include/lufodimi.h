@@ -1,20 +1,22 @@
-/* Controlled selection: roundings, plans, draws and campaigns.
+/* Controlled selection: roundings, plans, draws and campaigns. For x86-64 and the C ABI of its systems.
  *
- * Every call checks what it is lent. It returns 0, and lufodimi_plan the plan's length, or the number of the lowest refusal that applies;
- * a refusal changes no buffer:
- *    1  rows or columns not from 1 to 12
- *    2  denominator not from 1 to 65,535
- *    3  the cells are not rows times columns many
- *    4  a cell above 1000 times the denominator
- *    5  the stored plan's form, zero field, sizes, an offset or the length wrong
- *    6  the stored plan has a cell above 1000 times the denominator, or does not meet another condition of opening
- *    7  a lent buffer shorter than its result or record
- *    8  draw number not below the denominator
- *    9  the record does not fit the plan
- *   10  the number is taken
+ * A table has rows and columns of cells, whole numbers in row order, over one denominator: a cell over the denominator is the count
+ * expected there. A plan is a list of whole-number arrays, one count a cell, with weights that add up to the denominator. Draw numbers
+ * run from 0 to the denominator minus 1, and each belongs to one array. The chances of a plan hold only if the draw number is drawn
+ * evenly at random, in a campaign evenly among the numbers that are not taken yet; the caller makes the random numbers.
  *
- * A length counts elements, not bytes. A pointer is never null, not even with length 0. Buffers that a call writes do not overlap any
- * other buffer of that call. No call keeps a pointer, and none uses a heap.
+ * Every call checks what it is lent. It returns LUFODIMI_DONE, and lufodimi_plan the plan's length, or the number of the lowest refusal
+ * that applies. A refusal changes no buffer.
+ *
+ * What a call is lent:
+ * - A length counts elements, not bytes. A pointer is never null, not even with length 0, and is aligned for its elements.
+ * - Lent memory holds values, whichever: initialise a buffer before it is lent, even one that a call only writes.
+ * - A buffer that a call writes overlaps no other buffer of that call; the record counts as such a buffer.
+ * - A result stands at the start of its buffer, and what lies beyond it is not touched.
+ * - A refused start or draw stores the record's old count back, so the record has to be writable in any case.
+ *
+ * No call keeps a pointer, none uses a heap, none has a state of its own, so calls may run at the same time on different buffers.
+ * Planning needs about 60 KB of stack, every other call less than 8 KB.
  */
 #ifndef LUFODIMI_H
 #define LUFODIMI_H
@@ -26,8 +28,35 @@
 extern "C" {
 #endif
 
-/* The longest stored plan, in bytes. */
+/* The version of this header: 10000 for each major, 100 for each minor. */
+#define LUFODIMI_VERSION 100
+
+/* The most rows and columns, and the largest denominator. */
+#define LUFODIMI_MOST_ROWS 12
+#define LUFODIMI_MOST_COLUMNS 12
+#define LUFODIMI_LARGEST_DENOMINATOR 65535
+
+/* The shortest and the longest stored plan, in bytes. */
+#define LUFODIMI_SHORTEST_PLAN 30
 #define LUFODIMI_LONGEST_PLAN 50912
+
+/* How many numbers lufodimi_sizes writes. */
+#define LUFODIMI_SIZES 4
+
+/* What a call returns, but for the length of a plan. */
+enum lufodimi_answer {
+    LUFODIMI_DONE = 0,
+    LUFODIMI_SIZE = 1,        /* rows or columns not from 1 to 12 */
+    LUFODIMI_DENOMINATOR = 2, /* denominator not from 1 to 65,535 */
+    LUFODIMI_CELL_COUNT = 3,  /* the cells are not rows times columns many */
+    LUFODIMI_LARGE_CELL = 4,  /* a cell above 1000 times the denominator */
+    LUFODIMI_LAYOUT = 5,      /* the stored plan's form, zero field, sizes, an offset or the length wrong */
+    LUFODIMI_CONTENT = 6,     /* a stored cell above 1000 times the denominator, or another condition of opening unmet */
+    LUFODIMI_BUFFER = 7,      /* a lent buffer shorter than its result or record */
+    LUFODIMI_NUMBER = 8,      /* draw number not below the denominator */
+    LUFODIMI_RECORD = 9,      /* the record does not fit the plan */
+    LUFODIMI_TAKEN = 10       /* the number is taken */
+};
 
 /* The part of a campaign record that is no buffer: how many numbers are taken. */
 struct lufodimi_record {
@@ -39,25 +68,32 @@ uint32_t lufodimi_round(uint32_t rows, uint32_t columns, uint32_t denominator,
                         const uint32_t *cells, size_t cells_length,
                         uint16_t *counts, size_t counts_length);
 
-/* Writes the stored plan of a table and returns its length, which is 30 or more; a lower number is a refusal: 1, 2, 3, 4, 7. */
+/* Writes the stored plan of a table and returns its length, LUFODIMI_SHORTEST_PLAN or more; a lower number is a refusal: 1, 2, 3, 4, 7.
+ * A buffer of LUFODIMI_LONGEST_PLAN bytes is enough for every table, and one of just the plan's length for this one. */
 uint32_t lufodimi_plan(uint32_t rows, uint32_t columns, uint32_t denominator,
                        const uint32_t *cells, size_t cells_length,
                        uint8_t *plan, size_t plan_length);
 
-/* Opens a stored plan, whoever made it. It writes nothing. Refusals 5, 6. Of a plan that opens, byte 2 is the number of rows and byte 3
- * that of columns, and bytes 8 to 11, lowest first, are the denominator. */
+/* Opens a stored plan, whoever made it: its length is just the plan's. It writes nothing. Refusals 5, 6. */
 uint32_t lufodimi_open(const uint8_t *plan, size_t plan_length);
 
-/* Writes the array that belongs to a draw number. Refusals 5, 6, 7, 8. */
+/* Writes the sizes of a plan, LUFODIMI_SIZES numbers: rows, columns, arrays, denominator. Refusals 5, 6, 7. */
+uint32_t lufodimi_sizes(const uint8_t *plan, size_t plan_length, uint32_t *sizes, size_t sizes_length);
+
+/* Writes the cells of a plan's table: rows times columns numbers, in row order. Refusals 5, 6, 7. */
+uint32_t lufodimi_cells(const uint8_t *plan, size_t plan_length, uint32_t *cells, size_t cells_length);
+
+/* Writes the array that belongs to a draw number: rows times columns counts, in row order. Refusals 5, 6, 7, 8. */
 uint32_t lufodimi_draw(const uint8_t *plan, size_t plan_length, uint32_t number,
                        uint16_t *counts, size_t counts_length);
 
-/* Starts a campaign: sets the count, (denominator + 7) / 8 bytes of bits and rows times columns numbers of the tally to zero.
- * Refusals 5, 6, 7. */
+/* Starts a campaign, whatever the record held: sets to zero the count, (denominator + 7) / 8 bytes of bits, one bit for each draw number,
+ * and rows times columns numbers of the tally, one for each cell. Refusals 5, 6, 7. */
 uint32_t lufodimi_start(const uint8_t *plan, size_t plan_length, struct lufodimi_record *record,
                         uint8_t *bits, size_t bits_length, uint32_t *tally, size_t tally_length);
 
-/* Takes a number: writes its array, adds it to the tally, sets its bit and counts it. Refusals 5, 6, 7, 8, 9, 10. */
+/* Takes a number: writes its array, rows times columns counts, adds it to the tally, sets its bit (bit number mod 8, the lowest first, of
+ * byte number / 8) and counts it. Bits and tally need what a start sets. Refusals 5, 6, 7, 8, 9, 10. */
 uint32_t lufodimi_campaign_draw(const uint8_t *plan, size_t plan_length, uint32_t number, struct lufodimi_record *record,
                                 uint8_t *bits, size_t bits_length, uint32_t *tally, size_t tally_length,
                                 uint16_t *counts, size_t counts_length);
