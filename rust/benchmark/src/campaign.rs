@@ -17,11 +17,11 @@ struct Campaign {
 
 impl Campaign {
     fn start(&mut self, plan: &[u8]) -> u32 {
-        library::start(plan, &mut self.taken, &mut self.bits, &mut self.tally)
+        lufodimi_sys::start(plan, &mut self.taken, &mut self.bits, &mut self.tally)
     }
 
     fn draw(&mut self, plan: &[u8], number: u32) -> u32 {
-        library::campaign_draw(
+        lufodimi_sys::campaign_draw(
             plan,
             number,
             &mut self.taken,

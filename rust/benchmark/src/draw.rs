@@ -12,7 +12,7 @@ pub fn measure(plans: &[Vec<u8>]) {
     for _ in 0..PASSES {
         for (item, plan) in plans.iter().enumerate() {
             let number = generator.below(u64::from(DENOMINATOR)) as u32;
-            let answer = times.measure(item, || library::draw(plan, number, &mut counts));
+            let answer = times.measure(item, || lufodimi_sys::draw(plan, number, &mut counts));
             assert_eq!(answer, 0, "a draw is refused");
         }
     }

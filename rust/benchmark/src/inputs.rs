@@ -9,9 +9,6 @@ pub const DENOMINATOR: u32 = 65_535;
 /// The cells of a table, and so the counts of an array.
 pub const SIZE: usize = 144;
 
-/// The length of the longest stored plan.
-pub const LONGEST_PLAN: usize = 50_912;
-
 /// The tables that are planned, the same in every run.
 pub fn hundred_tables() -> Vec<GivenTable> {
     let mut generator = Generator::new(SEED);

@@ -74,7 +74,7 @@ impl Call for Start {
     }
 
     fn library(&mut self) -> u32 {
-        library::start(
+        lufodimi_sys::start(
             self.plan.lent(),
             &mut self.record.taken,
             self.record.bits.lent_mut(),
@@ -104,7 +104,7 @@ impl Call for CampaignDraw {
     }
 
     fn library(&mut self) -> u32 {
-        library::campaign_draw(
+        lufodimi_sys::campaign_draw(
             self.plan.lent(),
             self.number,
             &mut self.record.taken,

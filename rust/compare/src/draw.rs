@@ -54,7 +54,7 @@ impl Call for Draw {
     }
 
     fn library(&mut self) -> u32 {
-        library::draw(self.plan.lent(), self.number, self.counts.lent_mut())
+        lufodimi_sys::draw(self.plan.lent(), self.number, self.counts.lent_mut())
     }
 }
 

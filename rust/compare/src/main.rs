@@ -6,6 +6,7 @@
 mod campaign;
 mod draw;
 mod open;
+mod parts;
 mod plan;
 mod print;
 mod round;
@@ -20,6 +21,7 @@ const CALLS: &[(&[Kind], &[Named])] = &[
     (round::KINDS, round::NAMED),
     (plan::KINDS, plan::NAMED),
     (open::KINDS, open::NAMED),
+    (parts::KINDS, parts::NAMED),
     (draw::KINDS, draw::NAMED),
     (campaign::KINDS, campaign::NAMED),
     (print::KINDS, print::NAMED),

@@ -96,7 +96,7 @@ impl Call for Open {
     }
 
     fn library(&mut self) -> u32 {
-        library::open(self.plan.lent())
+        lufodimi_sys::open(self.plan.lent())
     }
 }
 

@@ -121,7 +121,7 @@ impl Call for Planning {
     }
 
     fn library(&mut self) -> u32 {
-        library::plan(
+        lufodimi_sys::plan(
             self.table.rows,
             self.table.columns,
             self.table.denominator,

@@ -97,7 +97,7 @@ impl Call for Round {
     }
 
     fn library(&mut self) -> u32 {
-        library::round(
+        lufodimi_sys::round(
             self.table.rows,
             self.table.columns,
             self.table.denominator,

@@ -1,9 +1,22 @@
-use std::error::Error;
-use std::fmt::{self, Display, Formatter};
+use core::error::Error;
+use core::fmt::{self, Debug, Display, Formatter};
 
-/// Why a call refused its input, with the number that the library returns for it. A
-/// refusal changes no buffer.
-#[derive(Clone, Copy, Debug, PartialEq, Eq)]
+/// Why something was refused. A refusal changes nothing; of several that apply, the one
+/// with the lowest number is returned.
+///
+/// It displays as a sentence without its end, and `Debug`, which the `?` of `main`
+/// prints, adds the number.
+///
+/// ```
+/// use lufodimi::{Refusal, Table};
+///
+/// let refusal = Table::new(1, 1, 0, [1]).unwrap_err();
+/// assert_eq!(refusal, Refusal::Denominator);
+/// assert_eq!(refusal.to_string(), "the denominator is not from 1 to 65,535");
+/// assert_eq!(format!("{refusal:?}"), "the denominator is not from 1 to 65,535 (refusal 2)");
+/// ```
+#[derive(Clone, Copy, PartialEq, Eq, Hash)]
+#[non_exhaustive]
 pub enum Refusal {
     /// Rows or columns not from 1 to 12.
     Size = 1,
@@ -15,15 +28,17 @@ pub enum Refusal {
     LargeCell = 4,
     /// A stored plan whose form, zero field, sizes, offsets or length are wrong.
     Layout = 5,
-    /// A stored plan with a cell above 1000 times the denominator, or that does not meet another condition of opening.
+    /// A stored plan with a cell above 1000 times the denominator, or that does not meet
+    /// another condition of opening.
     Content = 6,
-    /// A lent buffer shorter than its result or record.
+    /// A lent buffer shorter than its result or record. This crate lends buffers that
+    /// are long enough, and so never returns it.
     Buffer = 7,
     /// A draw number not below the denominator.
     Number = 8,
     /// A record that does not fit the plan.
     Record = 9,
-    /// A number that is taken.
+    /// A draw number that is taken.
     Taken = 10,
 }
 
@@ -42,7 +57,7 @@ const REFUSALS: [Refusal; 10] = [
 ];
 
 impl Refusal {
-    /// The number of the refusal, from 1 to 10.
+    /// The number by which the library and its specification name the refusal.
     ///
     /// ```
     /// assert_eq!(lufodimi::Refusal::Taken.number(), 10);
@@ -51,26 +66,40 @@ impl Refusal {
         self as u32
     }
 
-    /// The refusal with this number.
+    /// The refusal with this number, which is one that the library returned.
     pub(crate) fn of(number: u32) -> Refusal {
         REFUSALS[number as usize - 1]
+    }
+}
+
+/// What a call without a length returned: 0, or the number of the refusal.
+pub(crate) fn accepted(answer: u32) -> Result<(), Refusal> {
+    match answer {
+        0 => Ok(()),
+        number => Err(Refusal::of(number)),
     }
 }
 
 impl Display for Refusal {
     fn fmt(&self, formatter: &mut Formatter) -> fmt::Result {
         formatter.write_str(match self {
-            Refusal::Size => "The table has not from 1 to 12 rows and from 1 to 12 columns.",
-            Refusal::Denominator => "The denominator is not from 1 to 65,535.",
-            Refusal::CellCount => "The cells are not as many as rows times columns.",
-            Refusal::LargeCell => "A cell is above 1000 times the denominator.",
-            Refusal::Layout => "The bytes are not laid out as a stored plan.",
-            Refusal::Content => "The stored plan does not meet the conditions of opening.",
-            Refusal::Buffer => "A buffer is shorter than its result or record.",
-            Refusal::Number => "The draw number is not below the denominator.",
-            Refusal::Record => "The record does not fit the plan.",
-            Refusal::Taken => "The number is taken.",
+            Refusal::Size => "rows or columns are not from 1 to 12",
+            Refusal::Denominator => "the denominator is not from 1 to 65,535",
+            Refusal::CellCount => "the cells are not as many as rows times columns",
+            Refusal::LargeCell => "a cell is above 1000 times the denominator",
+            Refusal::Layout => "the bytes are not laid out as a stored plan",
+            Refusal::Content => "the stored plan does not meet the conditions of opening",
+            Refusal::Buffer => "a buffer is shorter than its result or record",
+            Refusal::Number => "the draw number is not below the denominator",
+            Refusal::Record => "the record does not fit the plan",
+            Refusal::Taken => "the number is taken",
         })
+    }
+}
+
+impl Debug for Refusal {
+    fn fmt(&self, formatter: &mut Formatter) -> fmt::Result {
+        write!(formatter, "{self} (refusal {})", self.number())
     }
 }
 
@@ -79,6 +108,8 @@ impl Error for Refusal {}
 #[cfg(test)]
 mod tests {
     use super::*;
+    use alloc::format;
+    use alloc::string::ToString;
 
     #[test]
     fn every_number_has_its_refusal_and_a_sentence() {
@@ -86,10 +117,16 @@ mod tests {
             let refusal = Refusal::of(number);
             assert_eq!(refusal.number(), number);
             let sentence = refusal.to_string();
-            assert!(
-                sentence.ends_with('.') && sentence.contains(' '),
-                "{sentence}"
-            );
+            assert!(sentence.starts_with(char::is_lowercase), "{sentence}");
+            assert!(!sentence.ends_with('.'), "{sentence}");
+            let shown = format!("{sentence} (refusal {number})");
+            assert_eq!(format!("{refusal:?}"), shown);
         }
+    }
+
+    #[test]
+    fn only_0_is_accepted() {
+        assert_eq!(accepted(0), Ok(()));
+        assert_eq!(accepted(7), Err(Refusal::Buffer));
     }
 }

@@ -3,6 +3,7 @@
 
 mod campaign;
 mod flow;
+mod parts;
 mod plan;
 mod refusal;
 mod rounding;
@@ -11,6 +12,7 @@ mod table;
 mod text;
 
 pub use campaign::{bytes_of_bits, campaign_draw, start};
+pub use parts::{cells, sizes};
 pub use plan::{plan, plan_of, Array, Plan};
 pub use refusal::{number_of, Refusal};
 pub use rounding::{first_rounding, is_controlled_rounding, round, rounds_to};

@@ -8,6 +8,7 @@ pub mod check;
 pub mod draw;
 pub mod examples;
 pub mod open;
+pub mod parts;
 pub mod plan;
 pub mod round;
 pub mod runs;

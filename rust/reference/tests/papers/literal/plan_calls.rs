@@ -1,9 +1,9 @@
-//! Stored plans: what they hold, which of them open, and draws.
+//! Stored plans: what they hold, which of them open, what they tell, and draws.
 
 use super::assert_rows;
 use crate::samples::stated_plan;
-use reference::{encode, number_of};
-use tables::literal::{draw, open, stored};
+use reference::{encode, number_of, Refusal};
+use tables::literal::{draw, open, parts, stored};
 
 #[test]
 fn stored_plans_hold_what_is_said() {
@@ -20,6 +20,28 @@ fn plans_open_or_not() {
         let answer = reference::open(&row.bytes).map(drop);
         (number_of(answer), row.number)
     });
+}
+
+/// A call that tells a part of a plan, on the rows of its table.
+fn assert_told(rows: &[parts::Telling], call: fn(&[u8], &mut [u32]) -> Result<(), Refusal>) {
+    assert_rows(rows, |row| {
+        let mut numbers = row.buffer.clone();
+        let answer = call(&row.given, &mut numbers);
+        (
+            (number_of(answer), numbers),
+            (row.number, row.result.clone()),
+        )
+    });
+}
+
+#[test]
+fn sizes() {
+    assert_told(&parts::sizes(), reference::sizes);
+}
+
+#[test]
+fn cells() {
+    assert_told(&parts::cells(), reference::cells);
 }
 
 #[test]

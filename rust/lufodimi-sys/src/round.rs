@@ -1,5 +1,11 @@
 extern "C" {
-    fn lufodimi_round(
+    /// Writes the first controlled rounding of a table: rows times columns counts, in row
+    /// order. Refusals 1, 2, 3, 4, 7.
+    ///
+    /// # Safety
+    ///
+    /// As the crate says.
+    pub fn lufodimi_round(
         rows: u32,
         columns: u32,
         denominator: u32,
@@ -11,6 +17,12 @@ extern "C" {
 }
 
 /// Writes the first controlled rounding. Returns 0 or the refusal.
+///
+/// ```
+/// let mut counts = [0; 2];
+/// assert_eq!(lufodimi_sys::round(1, 2, 4, &[4, 6], &mut counts), 0);
+/// assert_eq!(counts, [1, 1]);
+/// ```
 pub fn round(rows: u32, columns: u32, denominator: u32, cells: &[u32], counts: &mut [u16]) -> u32 {
     // SAFETY: every pointer comes with the length of its slice.
     unsafe {

@@ -1,0 +1,18 @@
+extern "C" {
+    /// Opens a stored plan, whoever made it. It writes nothing. Refusals 5, 6.
+    ///
+    /// # Safety
+    ///
+    /// As the crate says.
+    pub fn lufodimi_open(plan: *const u8, plan_length: usize) -> u32;
+}
+
+/// Opens a stored plan. Returns 0 or the refusal.
+///
+/// ```
+/// assert_eq!(lufodimi_sys::open(&[]), 5);
+/// ```
+pub fn open(plan: &[u8]) -> u32 {
+    // SAFETY: the pointer comes with the length of its slice.
+    unsafe { lufodimi_open(plan.as_ptr(), plan.len()) }
+}

@@ -1,0 +1,204 @@
+use crate::refusal::accepted;
+use crate::{Refusal, Table};
+use alloc::vec;
+use alloc::vec::Vec;
+use lufodimi_sys::LUFODIMI_LONGEST_PLAN;
+
+/// A plan that opens: a table, and arrays of counts with weights that add up to the
+/// table's denominator. Every array keeps each cell, row and column at its expectation
+/// rounded down or up, and the weighted arrays add up to the table.
+///
+/// It owns its bytes, which are the stored form that every caller of the library shares.
+///
+/// ```
+/// use lufodimi::{Plan, Table};
+///
+/// let plan = Plan::of(&Table::new(2, 2, 10, [3, 4, 5, 6])?);
+/// assert_eq!((plan.rows(), plan.columns(), plan.denominator()), (2, 2, 10));
+/// assert_eq!(plan.draw(0)?, [0, 0, 0, 1]);
+/// # Ok::<(), lufodimi::Refusal>(())
+/// ```
+#[derive(Clone, Debug, PartialEq, Eq, Hash)]
+pub struct Plan {
+    bytes: Vec<u8>,
+    table: Table,
+    arrays: u32,
+}
+
+/// The least length of a stored plan; where planning returns less, it is a refusal.
+const SHORTEST_PLAN: u32 = 30;
+
+impl Plan {
+    /// The plan of a table. A table has one plan, and everybody gets the same.
+    ///
+    /// ```
+    /// use lufodimi::{Plan, Table};
+    ///
+    /// let plan = Plan::of(&Table::new(1, 1, 3, [2])?);
+    /// assert_eq!(plan.array_count(), 2);
+    /// # Ok::<(), lufodimi::Refusal>(())
+    /// ```
+    pub fn of(table: &Table) -> Plan {
+        // The table was accepted and the longest plan has room: that planning then gives
+        // a plan, and that it opens, is proved of the library.
+        planned(table)
+            .and_then(Plan::open)
+            .expect("an accepted table has a plan that opens")
+    }
+
+    /// Opens a stored plan, whoever made it.
+    ///
+    /// ```
+    /// use lufodimi::{Plan, Refusal, Table};
+    ///
+    /// let plan = Plan::of(&Table::new(1, 1, 3, [2])?);
+    /// assert_eq!(Plan::open(plan.as_bytes()), Ok(plan));
+    /// assert_eq!(Plan::open([]), Err(Refusal::Layout));
+    /// # Ok::<(), Refusal>(())
+    /// ```
+    ///
+    /// # Errors
+    ///
+    /// [`Refusal::Layout`] if the bytes are not laid out as a stored plan, and
+    /// [`Refusal::Content`] if another condition of opening is not met.
+    pub fn open(bytes: impl Into<Vec<u8>>) -> Result<Plan, Refusal> {
+        let bytes = bytes.into();
+        let mut sizes = [0; 4];
+        accepted(lufodimi_sys::sizes(&bytes, &mut sizes))?;
+        let [rows, columns, arrays, denominator] = sizes;
+        let mut cells = vec![0; (rows * columns) as usize];
+        accepted(lufodimi_sys::cells(&bytes, &mut cells))?;
+        Ok(Plan {
+            bytes,
+            table: Table::opened(rows, columns, denominator, cells),
+            arrays,
+        })
+    }
+
+    /// The stored plan.
+    ///
+    /// ```
+    /// let plan = lufodimi::Plan::of(&lufodimi::Table::new(1, 1, 1, [5])?);
+    /// assert_eq!(plan.as_bytes().len(), 30);
+    /// # Ok::<(), lufodimi::Refusal>(())
+    /// ```
+    pub fn as_bytes(&self) -> &[u8] {
+        &self.bytes
+    }
+
+    /// The stored plan, without a copy.
+    ///
+    /// ```
+    /// let plan = lufodimi::Plan::of(&lufodimi::Table::new(1, 1, 1, [5])?);
+    /// assert_eq!(plan.clone().into_bytes(), plan.as_bytes());
+    /// # Ok::<(), lufodimi::Refusal>(())
+    /// ```
+    pub fn into_bytes(self) -> Vec<u8> {
+        self.bytes
+    }
+
+    /// The table that the plan is of.
+    ///
+    /// ```
+    /// let table = lufodimi::Table::new(1, 2, 4, [4, 6])?;
+    /// assert_eq!(lufodimi::Plan::of(&table).table(), &table);
+    /// # Ok::<(), lufodimi::Refusal>(())
+    /// ```
+    pub fn table(&self) -> &Table {
+        &self.table
+    }
+
+    /// How many rows the table has.
+    ///
+    /// ```
+    /// let plan = lufodimi::Plan::of(&lufodimi::Table::new(1, 2, 4, [4, 6])?);
+    /// assert_eq!(plan.rows(), 1);
+    /// # Ok::<(), lufodimi::Refusal>(())
+    /// ```
+    pub fn rows(&self) -> u32 {
+        self.table.rows()
+    }
+
+    /// How many columns the table has.
+    ///
+    /// ```
+    /// let plan = lufodimi::Plan::of(&lufodimi::Table::new(1, 2, 4, [4, 6])?);
+    /// assert_eq!(plan.columns(), 2);
+    /// # Ok::<(), lufodimi::Refusal>(())
+    /// ```
+    pub fn columns(&self) -> u32 {
+        self.table.columns()
+    }
+
+    /// The denominator, which is also how many draw numbers there are.
+    ///
+    /// ```
+    /// let plan = lufodimi::Plan::of(&lufodimi::Table::new(1, 2, 4, [4, 6])?);
+    /// assert_eq!(plan.denominator(), 4);
+    /// # Ok::<(), lufodimi::Refusal>(())
+    /// ```
+    pub fn denominator(&self) -> u32 {
+        self.table.denominator()
+    }
+
+    /// The cells of the table, in row order.
+    ///
+    /// ```
+    /// let plan = lufodimi::Plan::of(&lufodimi::Table::new(1, 2, 4, [4, 6])?);
+    /// assert_eq!(plan.cells(), [4, 6]);
+    /// # Ok::<(), lufodimi::Refusal>(())
+    /// ```
+    pub fn cells(&self) -> &[u32] {
+        self.table.cells()
+    }
+
+    /// How many arrays the plan has.
+    ///
+    /// ```
+    /// let plan = lufodimi::Plan::of(&lufodimi::Table::new(2, 2, 10, [3, 4, 5, 6])?);
+    /// assert_eq!(plan.array_count(), 4);
+    /// # Ok::<(), lufodimi::Refusal>(())
+    /// ```
+    pub fn array_count(&self) -> u32 {
+        self.arrays
+    }
+
+    /// The array that belongs to a draw number, counts in row order. Chances are those of
+    /// the table only if the number is drawn evenly from 0 to the denominator minus 1.
+    ///
+    /// ```
+    /// use lufodimi::{Plan, Refusal, Table};
+    ///
+    /// let plan = Plan::of(&Table::new(1, 1, 3, [2])?);
+    /// assert_eq!([plan.draw(0)?, plan.draw(1)?, plan.draw(2)?], [[0], [1], [1]]);
+    /// assert_eq!(plan.draw(3), Err(Refusal::Number));
+    /// # Ok::<(), Refusal>(())
+    /// ```
+    ///
+    /// # Errors
+    ///
+    /// [`Refusal::Number`] if the number is not below the denominator.
+    pub fn draw(&self, number: u32) -> Result<Vec<u16>, Refusal> {
+        let mut counts = vec![0; self.cells().len()];
+        accepted(lufodimi_sys::draw(&self.bytes, number, &mut counts))?;
+        Ok(counts)
+    }
+}
+
+/// The stored plan of a table.
+fn planned(table: &Table) -> Result<Vec<u8>, Refusal> {
+    let mut bytes = vec![0; LUFODIMI_LONGEST_PLAN];
+    let answer = lufodimi_sys::plan(
+        table.rows(),
+        table.columns(),
+        table.denominator(),
+        table.cells(),
+        &mut bytes,
+    );
+    if answer < SHORTEST_PLAN {
+        return Err(Refusal::of(answer));
+    }
+    bytes.truncate(answer as usize);
+    bytes.shrink_to_fit();
+    Ok(bytes)
+}

@@ -1,0 +1,164 @@
+use crate::refusal::accepted;
+use crate::Refusal;
+use alloc::vec;
+use alloc::vec::Vec;
+
+/// A table of expected counts: a cell g, in row order, stands for g over the denominator.
+///
+/// Every `Table` is within the bounds, so it has a rounding and a plan.
+///
+/// ```
+/// use lufodimi::Table;
+///
+/// let table = Table::new(2, 3, 10, [1, 2, 3, 4, 5, 6])?;
+/// assert_eq!((table.rows(), table.columns(), table.denominator()), (2, 3, 10));
+/// assert_eq!(table.cells(), [1, 2, 3, 4, 5, 6]);
+/// # Ok::<(), lufodimi::Refusal>(())
+/// ```
+#[derive(Clone, Debug, PartialEq, Eq, Hash)]
+pub struct Table {
+    rows: u32,
+    columns: u32,
+    denominator: u32,
+    cells: Vec<u32>,
+}
+
+/// The most cells of a table.
+const MOST_CELLS: usize = (Table::MAX_ROWS * Table::MAX_COLUMNS) as usize;
+
+impl Table {
+    /// The most rows.
+    ///
+    /// ```
+    /// assert_eq!(lufodimi::Table::MAX_ROWS, 12);
+    /// ```
+    pub const MAX_ROWS: u32 = 12;
+
+    /// The most columns.
+    ///
+    /// ```
+    /// assert_eq!(lufodimi::Table::MAX_COLUMNS, 12);
+    /// ```
+    pub const MAX_COLUMNS: u32 = 12;
+
+    /// The largest denominator.
+    ///
+    /// ```
+    /// assert_eq!(lufodimi::Table::MAX_DENOMINATOR, 65_535);
+    /// ```
+    pub const MAX_DENOMINATOR: u32 = 65_535;
+
+    /// The largest expected count: a cell is at most this times the denominator.
+    ///
+    /// ```
+    /// assert_eq!(lufodimi::Table::MAX_COUNT, 1000);
+    /// ```
+    pub const MAX_COUNT: u32 = 1000;
+
+    /// A table of rows times columns cells, in row order.
+    ///
+    /// ```
+    /// use lufodimi::{Refusal, Table};
+    ///
+    /// assert!(Table::new(1, 2, 4, [4, 6]).is_ok());
+    /// assert_eq!(Table::new(1, 2, 4, [4]), Err(Refusal::CellCount));
+    /// ```
+    ///
+    /// # Errors
+    ///
+    /// [`Refusal::Size`], [`Refusal::Denominator`], [`Refusal::CellCount`] or
+    /// [`Refusal::LargeCell`] if a bound does not hold.
+    pub fn new(
+        rows: u32,
+        columns: u32,
+        denominator: u32,
+        cells: impl Into<Vec<u32>>,
+    ) -> Result<Table, Refusal> {
+        let table = Table {
+            rows,
+            columns,
+            denominator,
+            cells: cells.into(),
+        };
+        table.rounded(&mut [0; MOST_CELLS])?;
+        Ok(table)
+    }
+
+    /// The table of a plan that the library opened, whose bounds it checked.
+    pub(crate) fn opened(rows: u32, columns: u32, denominator: u32, cells: Vec<u32>) -> Table {
+        Table {
+            rows,
+            columns,
+            denominator,
+            cells,
+        }
+    }
+
+    /// How many rows there are.
+    ///
+    /// ```
+    /// assert_eq!(lufodimi::Table::new(1, 2, 4, [4, 6])?.rows(), 1);
+    /// # Ok::<(), lufodimi::Refusal>(())
+    /// ```
+    pub fn rows(&self) -> u32 {
+        self.rows
+    }
+
+    /// How many columns there are.
+    ///
+    /// ```
+    /// assert_eq!(lufodimi::Table::new(1, 2, 4, [4, 6])?.columns(), 2);
+    /// # Ok::<(), lufodimi::Refusal>(())
+    /// ```
+    pub fn columns(&self) -> u32 {
+        self.columns
+    }
+
+    /// The denominator of every cell.
+    ///
+    /// ```
+    /// assert_eq!(lufodimi::Table::new(1, 2, 4, [4, 6])?.denominator(), 4);
+    /// # Ok::<(), lufodimi::Refusal>(())
+    /// ```
+    pub fn denominator(&self) -> u32 {
+        self.denominator
+    }
+
+    /// The cells, in row order.
+    ///
+    /// ```
+    /// assert_eq!(lufodimi::Table::new(1, 2, 4, [4, 6])?.cells(), [4, 6]);
+    /// # Ok::<(), lufodimi::Refusal>(())
+    /// ```
+    pub fn cells(&self) -> &[u32] {
+        &self.cells
+    }
+
+    /// The first controlled rounding: counts in row order of which each, and each row,
+    /// column and grand total, is the expected one rounded down or up. First is the one
+    /// with the smaller count at the first cell where two differ.
+    ///
+    /// ```
+    /// assert_eq!(lufodimi::Table::new(2, 2, 2, [1, 1, 1, 1])?.round(), [0, 1, 1, 0]);
+    /// # Ok::<(), lufodimi::Refusal>(())
+    /// ```
+    pub fn round(&self) -> Vec<u16> {
+        let mut counts = vec![0; self.cells.len()];
+        // The table was accepted and there is a count for each cell: that no refusal
+        // applies then is proved of the library.
+        self.rounded(&mut counts)
+            .expect("an accepted table has a controlled rounding");
+        counts
+    }
+
+    /// Writes the first controlled rounding.
+    fn rounded(&self, counts: &mut [u16]) -> Result<(), Refusal> {
+        accepted(lufodimi_sys::round(
+            self.rows,
+            self.columns,
+            self.denominator,
+            &self.cells,
+            counts,
+        ))
+    }
+}
