@@ -1,0 +1,171 @@
+"""Controlled selection over the proved library: tables, plans, draws and campaigns.
+
+    stored = lufodimi.plan(2, 2, 10, [3, 4, 5, 6])      # rows, columns, denominator, cells in row order; bytes to keep
+    campaign = lufodimi.Campaign(lufodimi.Plan(stored))
+    while campaign.free:
+        counts = campaign.draw_random()                 # how many cartons of each cell to open
+    assert campaign.tally == campaign.plan.cells
+
+The shared object, which LUFODIMI_LIBRARY names if it stands elsewhere, is made of what `rt staticlib exports` writes:
+
+    cc -shared -o target/staticlib/liblufodimi.so -Wl,--whole-archive target/staticlib/libexports.a -Wl,--no-whole-archive
+
+What the library turns back is a Refusal, an integer beyond 32 bits an OverflowError; neither changes anything.
+"""
+from __future__ import annotations
+
+import ctypes
+import operator
+import os
+import pathlib
+import secrets
+import struct
+from ctypes import POINTER, c_char_p, c_size_t, c_uint8, c_uint16, c_uint32
+from typing import Iterable
+
+LONGEST_PLAN, SHORTEST_PLAN, MOST_CELLS = 50_912, 30, 144
+# A stored record: how it begins (LUFR, form 1, zero), how many numbers are taken, how many bytes of bits and sums of the tally follow.
+_BEGIN, _HEAD = b"LUFR\1\0\0\0", struct.Struct("<8sIII")
+SENTENCES = {
+    1: "The table has not from 1 to 12 rows and from 1 to 12 columns.",
+    2: "The denominator is not from 1 to 65,535.",
+    3: "The cells are not as many as rows times columns.",
+    4: "A cell is above 1000 times the denominator.",
+    5: "The bytes are not laid out as a stored plan.",
+    6: "The stored plan does not meet the conditions of opening.",
+    7: "A buffer is shorter than its result or record.",
+    8: "The draw number is not below the denominator.",
+    9: "The record does not fit the plan.",
+    10: "The number is taken.",
+}
+
+
+class Refusal(Exception):
+    """Why a call turned its input back: its `number`, from 1 to 10, and as text its sentence."""
+
+    def __init__(self, number: int):
+        super().__init__(SENTENCES[number])
+        self.number = number
+
+
+_path = os.environ.get("LUFODIMI_LIBRARY") or str(pathlib.Path(__file__).resolve().parents[1] / "target/staticlib/liblufodimi.so")
+try:
+    # The calls of a PyDLL keep Python's own lock, so that no other thread writes to a record while it is lent.
+    _library = ctypes.PyDLL(_path)
+except OSError as error:
+    raise ImportError(f"lufodimi's shared object cannot be loaded ({error}); LUFODIMI_LIBRARY names it") from None
+_words, _counts, _plan = [POINTER(c_uint32), c_size_t], [POINTER(c_uint16), c_size_t], [c_char_p, c_size_t]
+_table, _record = [c_uint32] * 3 + _words, [POINTER(c_uint32), POINTER(c_uint8), c_size_t] + _words
+_library.lufodimi_round.argtypes = _table + _counts
+_library.lufodimi_plan.argtypes = _table + _plan
+_library.lufodimi_sizes.argtypes = _plan + _words
+_library.lufodimi_cells.argtypes = _plan + _words
+_library.lufodimi_draw.argtypes = _plan + [c_uint32] + _counts
+_library.lufodimi_start.argtypes = _plan + _record
+_library.lufodimi_campaign_draw.argtypes = _plan + [c_uint32] + _record + _counts
+
+
+def _call(name: str, *lent) -> int:
+    answer = getattr(_library, "lufodimi_" + name)(*lent)
+    if 0 < answer < SHORTEST_PLAN:
+        raise Refusal(answer)
+    return answer
+
+
+def _word(value: int) -> int:
+    """The value, if 32 bits hold it; ctypes would cut it off and say nothing."""
+    if not 0 <= operator.index(value) < 2**32:
+        raise OverflowError(f"{value} is not from 0 to 4,294,967,295")
+    return operator.index(value)
+
+
+def _lent_table(rows: int, columns: int, denominator: int, cells: Iterable[int]) -> tuple:
+    words = [_word(cell) for cell in cells]
+    return _word(rows), _word(columns), _word(denominator), (c_uint32 * len(words))(*words), len(words)
+
+
+def round_table(rows: int, columns: int, denominator: int, cells: Iterable[int]) -> list[int]:
+    """The first controlled rounding of a table. Refusals 1, 2, 3, 4."""
+    counts = (c_uint16 * MOST_CELLS)()
+    _call("round", *_lent_table(rows, columns, denominator, cells), counts, MOST_CELLS)
+    return counts[: rows * columns]
+
+
+def plan(rows: int, columns: int, denominator: int, cells: Iterable[int]) -> bytes:
+    """The stored plan of a table. Refusals 1, 2, 3, 4."""
+    stored = ctypes.create_string_buffer(LONGEST_PLAN)
+    length = _call("plan", *_lent_table(rows, columns, denominator, cells), stored, LONGEST_PLAN)
+    return stored.raw[:length]
+
+
+class Plan:
+    """An opened plan: its bytes `stored`, and its `rows`, `columns`, `arrays` (how many), `denominator` and `cells`. Refusals 5, 6."""
+
+    def __init__(self, stored: bytes):
+        self.stored = memoryview(stored).tobytes()
+        sizes = (c_uint32 * 4)()
+        _call("sizes", self.stored, len(self.stored), sizes, 4)
+        self.rows, self.columns, self.arrays, self.denominator = sizes
+        cells = (c_uint32 * (self.rows * self.columns))()
+        _call("cells", self.stored, len(self.stored), cells, len(cells))
+        self.cells = list(cells)
+
+    def draw(self, number: int) -> list[int]:
+        """The array that belongs to a draw number, from 0 to the denominator minus 1. Refusal 8."""
+        counts = (c_uint16 * len(self.cells))()
+        _call("draw", self.stored, len(self.stored), _word(number), counts, len(counts))
+        return list(counts)
+
+
+class Campaign:
+    """Draws that use every number of a plan once. It starts anew, or goes on from the `record` of an earlier one. Refusal 9."""
+
+    def __init__(self, plan: Plan, record: bytes | None = None):
+        self.plan = plan
+        self._taken, self._bits, self._tally = c_uint32(), (c_uint8 * ((plan.denominator + 7) // 8))(), (c_uint32 * len(plan.cells))()
+        self._lent = ctypes.byref(self._taken), self._bits, len(self._bits), self._tally, len(self._tally)
+        _call("start", plan.stored, len(plan.stored), *self._lent)
+        if record is not None:
+            self._restore(memoryview(record).tobytes())
+            try:
+                self.draw(0)  # tells whether the record fits the plan, and is undone below
+            except Refusal as refusal:
+                if refusal.number != 10:
+                    raise
+            self._restore(memoryview(record).tobytes())
+
+    def _restore(self, record: bytes) -> None:
+        begin, taken, bits, tally = _HEAD.unpack(record[: _HEAD.size].ljust(_HEAD.size, b"\0"))
+        if begin != _BEGIN or len(record) != _HEAD.size + bits + 4 * tally:
+            raise ValueError("the bytes are not a stored record of form 1")
+        if (bits, tally) != (len(self._bits), len(self._tally)):
+            raise Refusal(9)
+        self._taken.value, self._bits[:] = taken, record[_HEAD.size : _HEAD.size + bits]
+        self._tally[:] = struct.unpack_from(f"<{tally}I", record, _HEAD.size + bits)
+
+    def draw(self, number: int) -> list[int]:
+        """Takes a number and gives its array. Chances hold only if it is drawn evenly among the free ones. Refusals 8, 10."""
+        counts = (c_uint16 * len(self.plan.cells))()
+        _call("campaign_draw", self.plan.stored, len(self.plan.stored), _word(number), *self._lent, counts, len(counts))
+        return list(counts)
+
+    def draw_random(self) -> list[int]:
+        """Takes one of the free numbers, each with the same chance, by the operating system's random numbers."""
+        if not self.free:
+            raise ValueError("every number is taken")
+        return self.draw(secrets.choice(self.free))
+
+    @property
+    def free(self) -> list[int]:
+        """The numbers that are not taken."""
+        return [number for number in range(self.plan.denominator) if not self._bits[number // 8] >> number % 8 & 1]
+
+    @property
+    def tally(self) -> list[int]:
+        """The sum of the arrays drawn so far; after the last draw it is the table's cells."""
+        return list(self._tally)
+
+    @property
+    def record(self) -> bytes:
+        """What to keep so that the campaign can go on later, in the form of the Rust crate's records."""
+        return _HEAD.pack(_BEGIN, self._taken.value, len(self._bits), len(self._tally)) + bytes(self._bits) + bytes(self._tally)

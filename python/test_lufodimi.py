@@ -1,0 +1,179 @@
+"""Tests of the Python module; the last line is 'N passed, 0 failed' if all passed."""
+import os
+import pathlib
+import subprocess
+import sys
+import unittest
+
+sys.dont_write_bytecode = True
+import lufodimi
+
+# The specification's listing: draws 0 and 1, 2, 3 to 6, 7 to 9.
+CELLS = [3, 4, 5, 6]
+ARRAYS = [[0, 0, 0, 1]] * 2 + [[0, 0, 1, 1]] + [[0, 1, 1, 0]] * 4 + [[1, 0, 0, 1]] * 3
+
+
+def campaign(record=None):
+    return lufodimi.Campaign(lufodimi.Plan(lufodimi.plan(2, 2, 10, CELLS)), record)
+
+
+class Tests(unittest.TestCase):
+    def refused(self, number, call, *words):
+        with self.assertRaises(lufodimi.Refusal) as caught:
+            call(*words)
+        self.assertEqual(caught.exception.number, number)
+        self.assertEqual(str(caught.exception), lufodimi.SENTENCES[number])
+
+    def test_rounding(self):
+        self.assertEqual(lufodimi.round_table(2, 2, 2, [1, 1, 1, 1]), [0, 1, 1, 0])
+        self.assertEqual(lufodimi.round_table(1, 2, 4, (4, 6)), [1, 1])
+        self.assertEqual(lufodimi.round_table(12, 12, 1, range(144)), list(range(144)))
+
+    def test_plan(self):
+        stored = lufodimi.plan(2, 2, 10, CELLS)
+        plan = lufodimi.Plan(stored)
+        self.assertEqual(len(stored), 96)
+        self.assertEqual((plan.rows, plan.columns, plan.arrays, plan.denominator, plan.cells), (2, 2, 4, 10, CELLS))
+        self.assertEqual([plan.draw(number) for number in range(10)], ARRAYS)
+
+    def test_shortest_plan(self):
+        self.assertEqual(lufodimi.plan(1, 1, 1, [1]), bytes.fromhex("0100010101000000 0100000018000000 010000001c000000 01000000 0100"))
+
+    def test_plan_keeps_its_bytes(self):
+        lent = bytearray(lufodimi.plan(2, 2, 10, CELLS))
+        plan = lufodimi.Plan(lent)
+        lent[0] = 9
+        self.assertEqual(plan.draw(0), ARRAYS[0])
+
+    def test_refusals_of_a_table(self):
+        for call in (lufodimi.round_table, lufodimi.plan):
+            self.refused(1, call, 0, 2, 10, CELLS)
+            self.refused(1, call, 2, 13, 0, [])
+            self.refused(1, call, 2**32 - 1, 2**32 - 1, 10, CELLS)
+            self.refused(2, call, 2, 2, 0, CELLS)
+            self.refused(2, call, 2, 2, 65_536, CELLS)
+            self.refused(3, call, 2, 2, 10, [])
+            self.refused(3, call, 2, 2, 10, CELLS + [7])
+            self.refused(4, call, 2, 2, 10, [3, 4, 5, 10_001])
+            self.refused(4, call, 2, 2, 10, [2**32 - 1, 4, 5, 6])
+
+    def test_refusals_of_a_plan(self):
+        stored = lufodimi.plan(2, 2, 10, CELLS)
+        self.refused(5, lufodimi.Plan, b"")
+        self.refused(5, lufodimi.Plan, stored + b"\0")
+        self.refused(5, lufodimi.Plan, stored[:-1])
+        weight = bytearray(stored)
+        weight[16] -= 1  # the first array's weight: the weights then add up to one less than the denominator
+        self.refused(6, lufodimi.Plan, weight)
+
+    def test_refusals_of_a_number(self):
+        plan = lufodimi.Plan(lufodimi.plan(2, 2, 10, CELLS))
+        self.refused(8, plan.draw, 10)
+        self.refused(8, plan.draw, 2**32 - 1)
+        run = lufodimi.Campaign(plan)
+        run.draw(3)
+        before = run.record
+        self.refused(8, run.draw, 10)
+        self.refused(10, run.draw, 3)
+        self.assertEqual(run.record, before)
+
+    def test_campaign_to_its_end(self):
+        run = campaign()
+        self.assertEqual((run.free, run.tally), (list(range(10)), [0, 0, 0, 0]))
+        self.assertEqual([run.draw(number) for number in range(10)], ARRAYS)
+        self.assertEqual((run.free, run.tally), ([], CELLS))
+        self.refused(10, run.draw, 0)
+        self.assertRaises(ValueError, run.draw_random)
+
+    def test_random_campaign(self):
+        cells = [997 * cell % 4_001 for cell in range(12)]
+        run = lufodimi.Campaign(lufodimi.Plan(lufodimi.plan(3, 4, 250, cells)))
+        drawn = [0] * 12
+        for left in range(250, 0, -1):
+            free = run.free
+            counts = run.draw_random()
+            (number,) = set(free) - set(run.free)
+            self.assertEqual((len(free), counts), (left, run.plan.draw(number)))
+            drawn = [one + more for one, more in zip(drawn, counts)]
+            self.assertEqual(run.tally, drawn)
+        self.assertEqual((run.free, run.tally), ([], cells))
+
+    def test_every_free_number_can_be_drawn(self):
+        first = set()
+        for _ in range(1_000):
+            run = campaign()
+            run.draw_random()
+            first |= set(range(10)) - set(run.free)
+        self.assertEqual(first, set(range(10)))
+
+    def test_resume(self):
+        run = campaign()
+        self.assertEqual(campaign(run.record).record, run.record)
+        for number in (7, 0, 3):
+            run.draw(number)
+        again = campaign(run.record)
+        self.assertEqual((again.free, again.tally, again.record), ([1, 2, 4, 5, 6, 8, 9], [1, 1, 1, 2], run.record))
+        self.refused(10, again.draw, 7)
+        while again.free:
+            again.draw_random()
+        self.assertEqual(again.tally, CELLS)
+        self.assertEqual(run.tally, [1, 1, 1, 2])
+        self.assertEqual(campaign(again.record).free, [])
+
+    def test_stored_record(self):
+        run = lufodimi.Campaign(lufodimi.Plan(lufodimi.plan(1, 1, 3, [2])))
+        run.draw(2)
+        self.assertEqual(run.record, b"LUFR\1\0\0\0" + bytes([1, 0, 0, 0, 1, 0, 0, 0, 1, 0, 0, 0, 0b100, 1, 0, 0, 0]))
+
+    def test_refusals_of_a_record(self):
+        run = campaign()
+        run.draw(7)
+        for place in range(len(run.record)):
+            other = bytearray(run.record)
+            other[place] ^= 128
+            if place < 8 or 12 <= place < 20:  # how it begins, and the lengths
+                self.assertRaises(ValueError, campaign, other)
+            else:
+                self.refused(9, campaign, other)
+        for other in (b"", b"LUFR", run.record[:-1], run.record + b"\0"):
+            self.assertRaises(ValueError, campaign, other)
+        self.refused(9, campaign, lufodimi.Campaign(lufodimi.Plan(lufodimi.plan(1, 1, 10, [3]))).record)
+
+    def test_integers_out_of_range(self):
+        plan = lufodimi.Plan(lufodimi.plan(2, 2, 10, CELLS))
+        run = lufodimi.Campaign(plan)
+        for word in (-1, 2**32, 2**32 + 2, 2**64 + 2, -(2**63)):
+            for call in (lufodimi.round_table, lufodimi.plan):
+                self.assertRaises(OverflowError, call, word, 2, 10, CELLS)
+                self.assertRaises(OverflowError, call, 2, word, 10, CELLS)
+                self.assertRaises(OverflowError, call, 2, 2, word, CELLS)
+                self.assertRaises(OverflowError, call, 2, 2, 10, [3, 4, word, 6])
+            self.assertRaises(OverflowError, plan.draw, word)
+            self.assertRaises(OverflowError, run.draw, word)
+        self.assertEqual(run.free, list(range(10)))
+
+    def test_other_types(self):
+        self.assertRaises(TypeError, lufodimi.plan, 2, 2, 10.0, CELLS)
+        self.assertRaises(TypeError, lufodimi.plan, 2, 2, 10, [3, 4, 5, "6"])
+        self.assertRaises(TypeError, lufodimi.Plan, 96)
+        self.assertRaises(TypeError, lufodimi.Plan, None)
+        self.assertRaises(TypeError, campaign, 23)
+
+    def test_missing_library(self):
+        folder = pathlib.Path(lufodimi.__file__).parent
+        ended = subprocess.run(
+            [sys.executable, "-B", "-c", "import lufodimi"],
+            cwd=folder,
+            env={**os.environ, "LUFODIMI_LIBRARY": "/nowhere/liblufodimi.so"},
+            stderr=subprocess.PIPE,
+            universal_newlines=True,
+        )
+        last = ended.stderr.splitlines()[-1]
+        self.assertTrue(last.startswith("ImportError: lufodimi's shared object cannot be loaded (/nowhere/liblufodimi.so: "), last)
+
+
+if __name__ == "__main__":
+    result = unittest.TextTestRunner(stream=sys.stdout).run(unittest.defaultTestLoader.loadTestsFromTestCase(Tests))
+    failed = len(result.failures) + len(result.errors)
+    print(f"{result.testsRun - failed} passed, {failed} failed")
+    sys.exit(failed != 0)
