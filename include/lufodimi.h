@@ -13,6 +13,9 @@
  * - Lent memory holds values, whichever: initialise a buffer before it is lent, even one that a call only writes.
  * - A buffer that a call writes overlaps no other buffer of that call; the record counts as such a buffer.
  * - A result stands at the start of its buffer, and what lies beyond it is not touched.
+ * - Lend a campaign's record, its bits and its tally to each draw as the call before left them; to go on later, keep all three and lend
+ *   them again. A draw refuses a record that does not fit the plan (9): a spare bit of the last byte is set, the count is not that of the
+ *   set bits, or the tally is not the sum of their numbers' arrays. A draw on a copy of the record tells whether it fits.
  * - A refused start or draw stores the record's old count back, so the record has to be writable in any case.
  *
  * No call keeps a pointer, none uses a heap, none has a state of its own, so calls may run at the same time on different buffers.
@@ -50,8 +53,8 @@ enum lufodimi_answer {
     LUFODIMI_DENOMINATOR = 2, /* denominator not from 1 to 65,535 */
     LUFODIMI_CELL_COUNT = 3,  /* the cells are not rows times columns many */
     LUFODIMI_LARGE_CELL = 4,  /* a cell above 1000 times the denominator */
-    LUFODIMI_LAYOUT = 5,      /* the stored plan's form, zero field, sizes, an offset or the length wrong */
-    LUFODIMI_CONTENT = 6,     /* a stored cell above 1000 times the denominator, or another condition of opening unmet */
+    LUFODIMI_LAYOUT = 5,      /* the stored plan's form, zero field, rows, columns, arrays, denominator, an offset or the length wrong */
+    LUFODIMI_CONTENT = 6,     /* another condition of opening unmet: a cell, a weight or a count, or what they add up to */
     LUFODIMI_BUFFER = 7,      /* a lent buffer shorter than its result or record */
     LUFODIMI_NUMBER = 8,      /* draw number not below the denominator */
     LUFODIMI_RECORD = 9,      /* the record does not fit the plan */

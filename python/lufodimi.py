@@ -10,7 +10,8 @@ The shared object, which LUFODIMI_LIBRARY names if it stands elsewhere, is made 
 
     cc -shared -o target/staticlib/liblufodimi.so -Wl,--whole-archive target/staticlib/libexports.a -Wl,--no-whole-archive
 
-What the library turns back is a Refusal, an integer beyond 32 bits an OverflowError; neither changes anything.
+What the library turns back is a Refusal; an integer beyond 32 bits is an OverflowError, and bytes that are no stored record are a ValueError. None of them
+changes anything. Counts, cells, sums and numbers come as lists of integers.
 """
 from __future__ import annotations
 
@@ -41,11 +42,14 @@ SENTENCES = {
 
 
 class Refusal(Exception):
-    """Why a call turned its input back: its `number`, from 1 to 10, and as text its sentence."""
+    """Why a call turned its input back: its `number`, from 1 to 10 (7 cannot occur here), and as text its sentence."""
 
     def __init__(self, number: int):
         super().__init__(SENTENCES[number])
         self.number = number
+
+    def __repr__(self) -> str:
+        return f"Refusal {self.number}: {self}"
 
 
 _path = os.environ.get("LUFODIMI_LIBRARY") or str(pathlib.Path(__file__).resolve().parents[1] / "target/staticlib/liblufodimi.so")
@@ -108,17 +112,23 @@ class Plan:
         self.rows, self.columns, self.arrays, self.denominator = sizes
         cells = (c_uint32 * (self.rows * self.columns))()
         _call("cells", self.stored, len(self.stored), cells, len(cells))
-        self.cells = list(cells)
+        self._cells = tuple(cells)
+
+    @property
+    def cells(self) -> list[int]:
+        """The table's cells, in row order."""
+        return list(self._cells)
 
     def draw(self, number: int) -> list[int]:
         """The array that belongs to a draw number, from 0 to the denominator minus 1. Refusal 8."""
-        counts = (c_uint16 * len(self.cells))()
+        counts = (c_uint16 * len(self._cells))()
         _call("draw", self.stored, len(self.stored), _word(number), counts, len(counts))
         return list(counts)
 
 
 class Campaign:
-    """Draws that use every number of a plan once. It starts anew, or goes on from the `record` of an earlier one. Refusal 9."""
+    """Draws that use every number of a plan once. It starts anew, or goes on from the `record` of an earlier one: refusal 9 if that does not fit the plan,
+    and ValueError if the bytes are no stored record, as where a file was cut short."""
 
     def __init__(self, plan: Plan, record: bytes | None = None):
         self.plan = plan
@@ -150,7 +160,7 @@ class Campaign:
         return list(counts)
 
     def draw_random(self) -> list[int]:
-        """Takes one of the free numbers, each with the same chance, by the operating system's random numbers."""
+        """Takes one of the free numbers, each with the same chance, by the operating system's random numbers; ValueError if none is free."""
         if not self.free:
             raise ValueError("every number is taken")
         return self.draw(secrets.choice(self.free))
