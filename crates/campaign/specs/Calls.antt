@@ -1,4 +1,4 @@
--- A start and a campaign draw: what each answers and leaves (01, "Campaign record" and "Turned back"). The code is equated with these, and a run is made
+-- A start and a campaign draw: what each answers and leaves (specification, "Campaign record" and "Refusals"). The code is equated with these, and a run is made
 -- of them. Assumes nothing.
 use mathlib.Core.Path.{_≡_}
 use mathlib.Core.List.{List}

@@ -1,4 +1,4 @@
--- Literal cases of a start and of a campaign draw (01, "Campaign record" and "Turned back"); the plans' bytes are typed out. Assumes nothing.
+-- Literal cases of a start and of a campaign draw (specification, "Campaign record" and "Refusals"); the plans' bytes are typed out. Assumes nothing.
 use mathlib.Core.List.{List, [], _∷_, _++_}
 use Prim.Native.Nat.{ℕ}
 use lib.ListN.{set}
@@ -7,7 +7,7 @@ use Rattle.form.specs.Examples.{square}
 use Rattle.campaign.specs.Record.{CampaignRecord, recordOf}
 use Rattle.campaign.specs.Calls.{started, ask, made}
 
--- `square`, 01's third example, with a weight too large: it does not open, 6; and with a byte more: 5
+-- `square`, the third table of the examples, with a weight too large: it does not open, 6; and with a byte more: 5
 abbrev pub heavy : List ℕ
 heavy = set square 16 2
 

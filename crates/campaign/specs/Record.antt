@@ -1,4 +1,4 @@
--- The campaign record, and when a start and a campaign draw are refused (01, "Campaign record" and "Turned back"). Assumes nothing.
+-- The campaign record, and when a start and a campaign draw are refused (specification, "Campaign record" and "Refusals"). Assumes nothing.
 use mathlib.Core.Bool.{Bool, not, _&&_}
 use mathlib.Core.List.{List, [], _∷_, _++_}
 use mathlib.Core.Option.{Option}
@@ -14,7 +14,7 @@ use Rattle.form.specs.Plan.{Plan, cellCount, arrayFor}
 use Rattle.form.specs.Form.{decode}
 use Rattle.opening.specs.Open.{openTests}
 
--- "The record is the count of numbers taken (32 bits); D bits [..]; and a tally of r·c numbers of 32 bits."
+-- how many numbers are taken, a bit for each number, and a sum for each cell
 pub record CampaignRecord : Type 0 where
   pub taken : ℕ
   pub bits : List ℕ
@@ -24,7 +24,7 @@ pub record CampaignRecord : Type 0 where
 abbrev pub recordOf : ℕ → List ℕ → List ℕ → CampaignRecord
 recordOf taken bits tally = record { taken = taken; bits = bits; tally = tally }
 
--- "number d in bit d mod 8 (lowest first) of byte d / 8"
+-- the bit of number d: of byte d / 8 the one worth 2 to the d mod 8
 unfoldable pub bitOf : List ℕ → ℕ → ℕ
 bitOf bits d = getD bits (d / 8) 0 / 2 ^ (d % 8) % 2
 
@@ -32,15 +32,15 @@ bitOf bits d = getD bits (d / 8) 0 / 2 ^ (d % 8) % 2
 abbrev pub bitBytes : ℕ → ℕ
 bitBytes denominator = (denominator + 7) / 8
 
--- "the spare bits are zero"
+-- the bits of the last byte that no number has are 0
 abbrev pub spareClear : ℕ → List ℕ → Bool
 spareClear denominator bits = every (8 * bitBytes denominator - denominator) (λ i. eqb (bitOf bits (denominator + i)) 0)
 
--- "the sum of the arrays of the taken numbers", at one cell
+-- what the arrays of the numbers whose bits are set add up to at one cell
 abbrev pub takenSum : Plan → List ℕ → ℕ → ℕ
 takenSum p bits i = sumTo (p .denominator) (λ d. bitOf bits d * getD (arrayFor (p .arrays) d) i 0)
 
--- "A record fits a plan if the spare bits are zero, the count is the number of set bits and the tally is the sum of the arrays of the taken numbers."
+-- a record fits a plan if no spare bit is set, the count is that of the set bits, and the tally is what their numbers' arrays add up to
 unfoldable pub fits : Plan → CampaignRecord → Bool
 fits p s =
     spareClear (p .denominator) (s .bits)
@@ -58,7 +58,7 @@ startTests b s = openTests b ++ (refuse Buffer (not (roomFor (decode b) s)) ∷ 
 unfoldable pub startRefusal : List ℕ → CampaignRecord → Option Refusal
 startRefusal b s = due (startTests b s)
 
--- "A start sets all of it to zero." "Bytes and numbers beyond those needed are never touched."
+-- a start sets the record to zero, and leaves what its buffers have beyond it
 unfoldable pub cleared : Plan → CampaignRecord → CampaignRecord
 cleared p s = record {
   taken = 0;
@@ -81,7 +81,7 @@ campaignTests b d s room =
 unfoldable pub campaignRefusal : List ℕ → ℕ → CampaignRecord → ℕ → Option Refusal
 campaignRefusal b d s room = due (campaignTests b d s room)
 
--- "Apart from setting the bit and adding the array to the tally, an accepted draw updates the campaign's count of numbers taken in the caller's record."
+-- an accepted draw of number d: one more is taken, its bit is set, and its array is added to the tally
 unfoldable pub taking : Plan → ℕ → CampaignRecord → CampaignRecord
 taking p d s = record {
   taken = s .taken + 1;

@@ -1,4 +1,4 @@
--- What every run is held to (01, "What demand 3 speaks of"). Assumes nothing.
+-- What every run is held to (specification, "What every campaign is held to"). Assumes nothing.
 use mathlib.Core.Path.{_≡_, sym, ap, _∙_, subst}
 use mathlib.Core.Bool.{Bool, true, false, cond}
 use mathlib.Core.List.{List, [], List·Memᴰ as Member}

@@ -101,7 +101,7 @@ module _ (b : List ℕ) (o : Opens b) (s₀ : CampaignRecord) (room : roomFor (d
     bit-test : leb (decode b .denominator) (x .number) ≡ false → not (eqb (bitOf (s .bits) (x .number)) 0) ≡ used h (x .number)
     bit-test l = rw (holds .claim .bits (x .number) (leb-false _ _ l)) (set-if (used h (x .number)))
 
-    -- what is due is what 01 says, by the draws before
+    -- what is due, by the draws before
     due-by : asked ≡ due (runTests (decode b) h x)
     unfolding campaignRefusal startRefusal
     due-by = due-second (startTests b s) _ (start-due s room-now) ∙ same-due _ _ _ _ (ap not (fits-run holds)) bit-test

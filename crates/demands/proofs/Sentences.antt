@@ -1,4 +1,4 @@
--- Sentences of 01 that follow from the definitions. Assumes nothing.
+-- Sentences of the specification that follow from the definitions. Assumes nothing.
 use mathlib.Core.Path.{_≡_, refl}
 use mathlib.Core.Bool.{true}
 use Prim.Native.Nat.{ℕ, _+_, _*_, _/_, _%_, _≤_}

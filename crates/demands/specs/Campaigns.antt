@@ -1,4 +1,4 @@
--- Small runs, and what is said of them: each definition of Runs with numbers typed out by hand (01, "Examples" and "What demand 3 speaks of").
+-- Small runs, and what is said of them: each definition of Runs with numbers typed out by hand (specification, "Examples" and "What every campaign is held to").
 -- Assumes nothing.
 use mathlib.Core.Bool.{Bool, true, false}
 use mathlib.Core.List.{List, [], _∷_, map}

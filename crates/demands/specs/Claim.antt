@@ -1,4 +1,4 @@
--- What every run of a campaign is held to (01, "What demand 3 speaks of"). `started` and `made` are the definitions that the code of a start and of a
+-- What every run of a campaign is held to (specification, "What every campaign is held to"). `started` and `made` are the definitions that the code of a start and of a
 -- campaign draw is equated with. Assumes nothing.
 use mathlib.Core.Path.{_≡_}
 use mathlib.Core.Bool.{true, cond}
@@ -20,7 +20,7 @@ use Rattle.campaign.specs.Record.{CampaignRecord, bitOf, bitBytes, roomFor}
 use Rattle.campaign.specs.Calls.{started, Asked, Made}
 use Rattle.demands.specs.Runs.{draws, lastRecord, used, accepted, drawn, unused}
 
--- "A draw returns 7 if its buffer is too short for the array, else 8 if its number is not below D, else 10 if it is used; otherwise it is accepted.": 0
+-- what a draw returns: 7 where its buffer is too short, else 8 where its number is not below D, else 10 where it is used, and else 0
 abbrev pub numberDue : Plan → List Made → Asked → ℕ
 numberDue p earlier x =
     cond (ltb (length (x .buffer)) (cellCount p)) 7
@@ -37,8 +37,8 @@ pub record DrawClaim (b : List ℕ) (earlier : List Made) (t : Made) : Type 0 wh
   -- a refused draw left buffer and record as they were
   pub kept : (x : Refusal) → t .answer ≡ Refused x → (t .result ≡ t .asked .buffer) × (t .left ≡ t .given)
 
--- "After the list the count is m, the bits set are those of the used numbers, spare bits are zero, the tally is what was drawn, cell by cell,
--- and the record beyond these is as before the start.": with the record s₀ before the start, and the record `end` after the list
+-- the record `end` after the list: its count is m, its bits tell the used numbers, its spare bits are 0, its tally is what was drawn, and what lies beyond
+-- is as in the record s₀ before the start
 pub record RecordClaim (p : Plan) (s₀ : CampaignRecord) (run : List Made) (end : CampaignRecord) : Type 0 where
   pub count : end .taken ≡ accepted run
   pub bits : (d : ℕ) → d < p .denominator → bitOf (end .bits) d ≡ cond (used run d) 1 0
@@ -51,7 +51,7 @@ pub record RecordClaim (p : Plan) (s₀ : CampaignRecord) (run : List Made) (end
 
 -- what holds of a start on bytes b that open, with a record s₀, and then the list l of draws
 pub record RunClaim (b : List ℕ) (s₀ : CampaignRecord) (l : List Asked) (p : Plan) (run : List Made) (end : CampaignRecord) : Type 0 where
-  -- "A start on a plan that opens, with a record long enough, is accepted, whatever the record held before."
+  -- the start is accepted, whatever the record held
   pub start : started b s₀ .answer ≡ Done
   -- the draws made are those asked for, each as claimed
   pub asked : map (λ t. t .asked) run ≡ l
@@ -62,7 +62,7 @@ pub record RunClaim (b : List ℕ) (s₀ : CampaignRecord) (l : List Asked) (p :
   pub bounds : (s : List ℕ) → Member s (heldTo (p .rows) (p .columns))
       → (accepted run * down (p .denominator) (total (p .cells) s) ≤ drawn p run s)
       × (drawn p run s ≤ accepted run * up (p .denominator) (total (p .cells) s))
-  -- beyond 01: m is at most D, and what the D − m unused numbers hold lies between D − m times the one and D − m times the other
+  -- beyond the specification: m is at most D, and what the D − m unused numbers hold lies between D − m times the one and D − m times the other
   pub at-most : accepted run ≤ p .denominator
   pub reserve : (s : List ℕ) → Member s (heldTo (p .rows) (p .columns))
       → ((p .denominator - accepted run) * down (p .denominator) (total (p .cells) s) ≤ unused p run s)
@@ -79,6 +79,6 @@ Held b =
     let run = draws b s l in
     RunClaim b s₀ l (decode b) run (lastRecord s run)
 
--- "It is a single claim about the list": for any bytes that open
+-- one claim about the whole list, for any bytes that open
 abbrev pub Claim : Type 0
 Claim = (b : List ℕ) → Opens b → Held b

@@ -1,4 +1,4 @@
--- The examples of 01 that carry proof ("Examples, P for proved"), as a table, and those that are about every size or denominator. Assumes nothing.
+-- The examples of the specification ("Examples") that carry proof, as a table, and those that are about every size or denominator. Assumes nothing.
 use mathlib.Core.Path.{_≡_}
 use mathlib.Core.List.{List, [], _∷_, map}
 use Prim.Native.Nat.{ℕ, _+_, _*_, _≤_}
@@ -62,9 +62,9 @@ computed x (number n) = number (checkedNumber (checkOf (x .rows) (x .columns) (x
 -- the examples, one theorem over the rows of their table, and the two that are about every denominator
 pub record ExamplesHold : Type 0 where
   pub rows : map (λ x. computed x (x .said)) examples ≡ map (λ x. x .said) examples
-  -- "all cells 0: one array of zeros, weight D"
+  -- a table of zeros has one array of zeros, with all the weight
   pub zeros : (r c d : ℕ) → 1 ≤ r → r ≤ maxRows → 1 ≤ c → c ≤ maxColumns → 1 ≤ d
       → planOf r c d (replicate (r * c) 0) .arrays ≡ record { weight = d; counts = replicate (r * c) 0 } ∷ []
-  -- "cell 1000·D is taken; one more gives 4"
+  -- a cell of 1000·D is taken, and one more gives 4
   pub cell-taken : (d : ℕ) → 1 ≤ d → d ≤ maxDenominator → checkedNumber (checkOf 1 1 d ((1000 * d) ∷ [])) ≡ 0
   pub cell-above : (d : ℕ) → 1 ≤ d → d ≤ maxDenominator → checkedNumber (checkOf 1 1 d ((1000 * d + 1) ∷ [])) ≡ 4

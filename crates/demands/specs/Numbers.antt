@@ -1,12 +1,11 @@
--- Which array a draw number belongs to (01, "The plan"). Assumes nothing.
+-- Which array a draw number belongs to (specification, "The plan"). Assumes nothing.
 use mathlib.Core.Path.{_≡_}
 use mathlib.Core.List.{List}
 use Prim.Native.Nat.{ℕ}
 use Rattle.form.specs.Plan.{Weighted, arrayAt, arrayFor}
 use Rattle.opening.specs.Parts.{Belongs}
 
--- "Draw number d [..] belongs to the array k for which the weights before k add up to at most d, and with k to more than d": there is one, only one, and
--- its counts are those that a draw of d gives
+-- draw number d belongs to the array whose stretch of weights it lies in: there is one, only one, and its counts are those that a draw of d gives
 pub record Belonging (l : List Weighted) (d : ℕ) : Type 0 where
   pub array : ℕ
   pub belongs : Belongs l d array

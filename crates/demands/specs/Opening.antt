@@ -1,4 +1,4 @@
--- When a stored plan opens: the conditions of 01 ("Stored plan, form 1"), one by one. Assumes nothing.
+-- When a stored plan opens: the conditions (specification, "Stored plan, form 1"), one by one. Assumes nothing.
 use mathlib.Core.Path.{_≡_}
 use mathlib.Core.Bool.{true}
 use mathlib.Core.List.{List, map, List·Memᴰ as Member}
@@ -15,16 +15,16 @@ use Rattle.opening.specs.Open.{heldTo, weighted}
 pub record PlanConditions (p : Plan) : Type 0 where
   -- a cell is at most 1000·D
   pub cells : (i : ℕ) → i < length (p .cells) → getD (p .cells) i 0 ≤ maxExpected * p .denominator
-  -- "each weight is at least 1 and they add up to D"
+  -- no weight is 0, and the weights make up D
   pub some-weight : (a : Weighted) → Member a (p .arrays) → 1 ≤ a .weight
   pub weights : sum (map (λ a. a .weight) (p .arrays)) ≡ p .denominator
-  -- "each cell, row total and column total of each array is the table's entry over D rounded down or up, whole ones kept"
+  -- every array keeps each cell, row total and column total at the table's over D, rounded down or up, and whole ones as they are
   pub rounded : (a : Weighted) → Member a (p .arrays) → (s : List ℕ) → Member s (heldTo (p .rows) (p .columns))
       → roundsTo (p .denominator) (total (p .cells) s) (total (a .counts) s) ≡ true
-  -- "and for each cell the counts times the weights add up to g"
+  -- the weighted counts make up each cell of the table
   pub sums : (i : ℕ) → i < cellCount p → weighted (p .arrays) i ≡ getD (p .cells) i 0
 
--- "the layout, the exact length and the bounds hold", and the conditions of the plan
+-- the bytes are laid out as the form asks, and the plan that they hold meets its conditions
 pub record Conditions (b : List ℕ) : Type 0 where
   pub layout : laidOut b ≡ true
   pub plan : PlanConditions (decode b)

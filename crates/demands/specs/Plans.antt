@@ -1,4 +1,4 @@
--- What the plan of every accepted table serves for: demand 3, with its last sentence (01, "What demand 3 speaks of"). Assumes nothing.
+-- What the plan of every accepted table serves for: demand 3, with its last sentence (specification, "What every campaign is held to"). Assumes nothing.
 use mathlib.Core.Path.{_≡_}
 use mathlib.Core.List.{List}
 use Prim.Native.Nat.{ℕ, _+_, _≤_}
@@ -12,7 +12,7 @@ use Rattle.demands.specs.Claim.{Held}
 
 -- an accepted table that was planned into a buffer with room: the answer, and what the buffer holds
 pub record Served (r c d : ℕ) (g : List ℕ) (answer : Planned) (buffer : List ℕ) : Type 0 where
-  -- "gives its plan, the bytes of the returned length"
+  -- the call answers with a length, and as many bytes of the buffer are the plan
   pub size : ℕ
   pub returned : answer ≡ Length size
   -- they open, to the plan of this table

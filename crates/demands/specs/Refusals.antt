@@ -1,4 +1,4 @@
--- Which refusal a call returns (01, "Turned back"): demand 1's "go unrefused where the papers say to refuse it", for each list of conditions. Assumes nothing.
+-- Which refusal a call returns (specification, "Refusals"), for each call's list of conditions. Assumes nothing.
 use mathlib.Core.Path.{_≡_}
 use mathlib.Core.Bool.{true}
 use mathlib.Core.List.{List, List·Memᴰ as Member}
@@ -18,7 +18,7 @@ pub record Lowest (l : List Test) (x : Refusal) : Type 0 where
   pub applies : Member (refuse x true) l
   pub lowest : (y : Refusal) → Member (refuse y true) l → numberOf x ≤ numberOf y
 
--- "The lowest number that applies is returned, and never when its condition is false.": and where nothing is returned, no condition holds
+-- what is returned applies, and nothing with a lower number does; where nothing is returned, no condition holds
 pub record Refuses (l : List Test) (o : Option Refusal) : Type 0 where
   pub refused : (x : Refusal) → o ≡ some x → Lowest l x
   pub accepted : o ≡ none → noneApplies l ≡ true

@@ -1,4 +1,4 @@
--- A run of a campaign, by the draws that were made (01, "What demand 3 speaks of"). Assumes nothing.
+-- A run of a campaign, by the draws that were made (specification, "What every campaign is held to"). Assumes nothing.
 use mathlib.Core.Bool.{Bool, true, false, cond, _&&_, _||_}
 use mathlib.Core.List.{List, [], _∷_, map}
 use Prim.Native.Nat.{ℕ}
@@ -12,7 +12,7 @@ use Rattle.form.specs.Plan.{Plan, cellCount, arrayFor}
 use Rattle.campaign.specs.Record.{CampaignRecord}
 use Rattle.campaign.specs.Calls.{Asked, Made, made}
 
--- "a list of campaign draws of any length, refused ones included. Each draw gets the plan's unchanged bytes, the record as the call before it left it"
+-- a list of campaign draws, refused ones among them: each gets the same plan, and the record as the call before left it
 unfoldable pub draws : List ℕ → CampaignRecord → List Asked → List Made
 draws b s [] = []
 draws b s (x ∷ l) = made b s x ∷ draws b (made b s x .left) l
@@ -26,7 +26,7 @@ abbrev pub isDone : Answer → Bool
 isDone Done = true
 isDone (Refused x) = false
 
--- "A number below D is used from its accepted draw on, and unused until then"
+-- whether a draw of number d was accepted
 unfoldable pub used : List Made → ℕ → Bool
 used [] d = false
 used (t ∷ l) d = isDone (t .answer) && eqb (t .asked .number) d || used l d
@@ -35,14 +35,14 @@ used (t ∷ l) d = isDone (t .answer) && eqb (t .asked .number) d || used l d
 unfoldable pub overAccepted : (Made → ℕ) → List Made → ℕ
 overAccepted f l = sum (map (λ t. cond (isDone (t .answer)) (f t) 0) l)
 
--- "m is how many draws were accepted"
+-- m: how many draws were accepted
 abbrev pub accepted : List Made → ℕ
 accepted l = overAccepted (λ t. 1) l
 
--- "Drawn is the sum of the arrays that accepted draws wrote out, for a row or column the sum over its cells": for any places
+-- what the arrays that accepted draws wrote add up to, at any places, so for a cell, a row or a column
 abbrev pub drawn : Plan → List Made → List ℕ → ℕ
 drawn p l s = overAccepted (λ t. total (take (cellCount p) (t .result)) s) l
 
--- "the unused numbers hold the sum of the arrays that belong to them"
+-- what the arrays of the numbers that are not used add up to
 unfoldable pub unused : Plan → List Made → List ℕ → ℕ
 unused p l s = sumTo (p .denominator) (λ d. cond (used l d) 0 (total (arrayFor (p .arrays) d) s))

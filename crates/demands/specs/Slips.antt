@@ -1,4 +1,4 @@
--- The slips that 01 lists ("Slips to be shut out"): for each, the wrong way written out, and what is asked of its result and of the definitions'.
+-- The slips (specification, "Slips that are shut out"): for each, the wrong way written out, and what is asked of its result and of the definitions'.
 -- Assumes nothing.
 use mathlib.Core.Path.{_≡_}
 use mathlib.Core.Bool.{Bool, true, false, cond, not, _&&_, _||_}
@@ -28,7 +28,7 @@ same [] (y ∷ m) = false
 same (x ∷ l) [] = false
 same (x ∷ l) (y ∷ m) = eqb x y && same l m
 
--- "Giving the weight left over to the last array when rounding gets stuck.": rounding gets stuck after the first k arrays
+-- leftover weight given to the last array: rounding gets stuck after the first k arrays
 abbrev pub heavier : ℕ → List Weighted → List Weighted
 heavier x [] = []
 heavier x (a ∷ []) = withWeight (a .weight + x) (a .counts) ∷ []
@@ -49,7 +49,7 @@ stuckAfter k p =
 abbrev pub opens : Plan → Bool
 opens p = noneApplies (openTests (encode p))
 
--- "Limits taken over cells only": rounds with such weights, at most `fuel` of them
+-- limits taken over cells only: rounds with such weights, at most `fuel` of them
 abbrev pub weightOverCells : ℕ → ℕ → ℕ → List ℕ → List ℕ → ℕ
 weightOverCells r c w g n = least (map (λ s. limitOf w (total g s) (total n s)) (tabulate (r * c) cellPlaces))
 
@@ -66,7 +66,7 @@ roundsOverCells (suc fuel) r c (suc v) g =
 abbrev pub keepsTotal : ℕ → List ℕ → List ℕ → List Weighted → Bool
 keepsTotal d g s l = all (λ a. eqb (total (a .counts) s) (down d (total g s)) || eqb (total (a .counts) s) (down d (total g s) + 1)) l
 
--- "Rounding each cell alone and mending totals afterwards.": every cell rounded down, and then, by a list of places, one more at each cell that is not
+-- cells rounded alone, and totals mended afterwards: every cell rounded down, and then, by a list of places, one more at each cell that is not
 -- whole until the grand total is reached
 abbrev pub alone : ℕ → List ℕ → List ℕ
 alone w g = map (down w) g
@@ -76,7 +76,7 @@ mended w g [] n = n
 mended w g (i ∷ l) n =
     mended w g l (cond (ltb (sum n) (down w (sum g)) && not (whole w (getD g i 0))) (set n i (getD n i 0 + 1)) n)
 
--- "Letting a whole cell vary.": every entry, whole or not, may be rounded down or one above
+-- a whole cell that varies: every entry, whole or not, may be rounded down or one above
 abbrev pub loose : ℕ → ℕ → ℕ → Bool
 loose w e n = eqb n (down w e) || eqb n (down w e + 1)
 
@@ -84,7 +84,7 @@ abbrev pub firstLoose : ℕ → ℕ → ℕ → List ℕ → List ℕ
 firstLoose r c w g =
     found (firstOf (λ n. all (λ s. loose w (total g s) (total n s)) (entryPlaces r c)) (map (λ e. record { low = down w e; high = down w e + 1 }) g))
 
--- "Counting a refused draw in the tally.": a draw that adds its array to the tally whatever its answer, and is else as defined
+-- a refused draw counted in the tally: a draw that adds its array to the tally whatever its answer, and is else as defined
 abbrev pub countingAll : List ℕ → CampaignRecord → Asked → Made
 countingAll b s x =
     let t = made b s x in
@@ -118,7 +118,7 @@ pub record Slip : Type 0 where
 abbrev pub slip : Bool → Bool → Slip
 slip x y = record { right = x; wrong = y }
 
--- 01's first table, and that with four halves
+-- the first table of the examples, and that with four halves
 abbrev pub first : List ℕ
 first = 3 ∷ 4 ∷ 5 ∷ 6 ∷ []
 

@@ -1,9 +1,9 @@
--- Stored plans typed out byte by byte from the layout that 01 gives ("Stored plan, form 1"); no definition of this project builds them. Assumes nothing.
+-- Stored plans typed out byte by byte from their layout (specification, "Stored plan, form 1"); no definition of this project builds them. Assumes nothing.
 use mathlib.Core.List.{List, [], _∷_}
 use Prim.Native.Nat.{ℕ}
 use Rattle.form.specs.Plan.{Weighted, Plan}
 
--- 01's third example: two by two, D 2, all cells 1
+-- the third table of the examples: two by two, D 2, all cells 1
 abbrev pub square : List ℕ
 square =
     -- form, r, c, K, zero

@@ -1,4 +1,4 @@
--- Stored plan, form 1 (01, "Stored plan, form 1"). Assumes nothing.
+-- Stored plan, form 1 (specification, "Stored plan, form 1"). Assumes nothing.
 use mathlib.Core.Bool.{Bool, _&&_}
 use mathlib.Core.List.{List, [], _∷_, _++_}
 use Prim.Native.Nat.{ℕ, zero, suc, _+_, _*_, _/_, _%_}
@@ -10,7 +10,7 @@ use Rattle.table.specs.Check.{upTo}
 use Rattle.form.specs.declared.Sizes.{Sizes}
 use Rattle.form.specs.Plan.{Plan, arrayAt}
 
--- "Low byte first.": a number in n bytes
+-- a number in n bytes, the low one first
 unfoldable pub bytes : ℕ → ℕ → List ℕ
 bytes zero x = []
 bytes (suc n) x = x % 256 ∷ bytes n (x / 256)
@@ -20,25 +20,24 @@ unfoldable pub number : ℕ → List ℕ → ℕ → ℕ
 number zero b at = 0
 number (suc n) b at = getD b at 0 + 256 * number n b (at + 1)
 
--- "Then the bodies without gaps, in the order of the contents: the table, 4 bytes a cell; each array, 2 bytes a cell."
--- where body i of a plan with k arrays begins: 0 is the table's, i is array i's
+-- where body i of a plan with k arrays begins: 0 is the table's, with 4 bytes a cell, i is array i's, with 2; they follow one another
 abbrev pub bodyAt : ℕ → ℕ → ℕ → ℕ → ℕ
 bodyAt r c k zero = 8 + 8 * (k + 1)
 bodyAt r c k (suc i) = 8 + 8 * (k + 1) + 4 * (r * c) + i * (2 * (r * c))
 
--- "The length is 8 + 8·(K+1) + 4·r·c + 2·K·r·c"
+-- the length of a plan with k arrays
 abbrev pub planLength : ℕ → ℕ → ℕ → ℕ
 planLength r c k = 8 + 8 * (k + 1) + 4 * (r * c) + k * (2 * (r * c))
 
--- "from 30 to 50,912"
+-- the shortest plan and the longest
 abbrev pub minLength : ℕ
 minLength = 30
 
 abbrev pub maxLength : ℕ
 maxLength = 50912
 
--- "Head, 8 bytes: form (2 bytes, 1), r (1), c (1), K, the number of arrays (2), zero (2). Then the contents, K+1 entries of 8 bytes: entry 0
--- is D and the offset of the table's body; entry k is array k's weight and the offset of its body, 4 bytes each. Then the bodies"
+-- the head: form 1 in two bytes, rows, columns, the number of arrays in two bytes, and two of zero. After it the contents, an entry of a number and an
+-- offset, four bytes each: D and where the table begins, and for each array its weight and where it begins. Then the table and the arrays
 unfoldable pub head : ℕ → ℕ → ℕ → List ℕ
 head r c k = bytes 2 1 ++ bytes 1 r ++ bytes 1 c ++ bytes 2 k ++ bytes 2 0
 
@@ -90,7 +89,7 @@ denominatorOf b = amountOf b 0
 abbrev pub sizesOf : List ℕ → Sizes
 sizesOf b = record { rows = rowsOf b; columns = columnsOf b; arrays = arraysOf b; denominator = denominatorOf b }
 
--- "The body of array k begins where its contents entry points.": cell i of the table, and count i of array k
+-- cell i of the table, and count i of array k, from where the entry of the contents points
 abbrev pub cellOf : List ℕ → ℕ → ℕ
 cellOf b i = number 4 b (offsetOf b 0 + 4 * i)
 
@@ -115,7 +114,7 @@ headRight b =
     eqb (formOf b) 1 && eqb (zeroOf b) 0
     && upTo maxRows (rowsOf b) && upTo maxColumns (columnsOf b) && upTo maxArrays (arraysOf b) && upTo maxDenominator (denominatorOf b)
 
--- "if the layout, the exact length and the bounds hold": else 5, "form, zero field, r, c, K, D, an offset or the length wrong"
+-- head, length and offsets are right: else 5
 unfoldable pub laidOut : List ℕ → Bool
 laidOut b =
     headRight b

@@ -1,4 +1,4 @@
--- Plans, and the array that belongs to a draw number (01, "The plan"). Assumes nothing.
+-- Plans, and the array that belongs to a draw number (specification, "The plan"). Assumes nothing.
 use mathlib.Core.Bool.{cond}
 use mathlib.Core.List.{List, [], _∷_}
 use Prim.Native.Nat.{ℕ, _-_, _*_}
@@ -26,8 +26,7 @@ pub record Plan : Type 0 where
 abbrev pub cellCount : Plan → ℕ
 cellCount p = p .rows * p .columns
 
--- "Draw number d, from 0 to D − 1, belongs to the array k for which the weights before k add up to at most d, and with k to more than d."; an empty list where d
--- is not below the sum
+-- the array that draw number d belongs to: the first whose weight, with those before it, is more than d; an empty list where all weights together are not
 unfoldable pub arrayFor : List Weighted → ℕ → List ℕ
 arrayFor [] d = []
 arrayFor (a ∷ l) d = cond (ltb d (a .weight)) (a .counts) (arrayFor l (d - a .weight))

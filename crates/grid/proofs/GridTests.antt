@@ -1,4 +1,4 @@
--- A test of every entry, in 01's order, is a test at every place of the grid. Assumes nothing.
+-- A test of every entry, in their order, is a test at every place of the grid. Assumes nothing.
 use mathlib.Core.Path.{_≡_, sym, ap, subst, _∙_}
 use mathlib.Core.Bool.{Bool, true}
 use mathlib.Core.List.{List, []}

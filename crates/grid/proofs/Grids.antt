@@ -31,7 +31,7 @@ module _ {r c : ℕ} {g : List ℕ} (s : Shape r c g) where
   column : (j : ℕ) → j < c → total g (columnPlaces r c j) ≡ value (gridPlace 12 j)
   column j h = at 12 j (omega arith) (omega (arith, s .columns)) (columnPlaces r c j) (grid-column r c 12 j (omega arith) (omega (arith, s .columns)) h)
 
-  -- the entries in 01's order are what stands at the places of `gridOrder`
+  -- the entries in their order are what stands at the places of `gridOrder`
   pub order-entries : entries r c g ≡ map (λ k. getD (gridOf r c g) k 0) (gridOrder r c)
   unfolding entries entryPlaces lines gridOrder
   order-entries =

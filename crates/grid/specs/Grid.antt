@@ -24,7 +24,7 @@ gridPlace p q = p * 13 + q
 unfoldable pub gridOf : ℕ → ℕ → List ℕ → List ℕ
 gridOf r c g = tabulate 169 (λ k. gridAt r c g (k / 13) (k % 13))
 
--- where the entries stand in the grid, in 01's order of entries
+-- where the entries stand in the grid, in their order
 unfoldable pub gridOrder : ℕ → ℕ → List ℕ
 gridOrder r c =
     tabulate (r * c) (λ k. gridPlace (k / c) (k % c))

@@ -1,4 +1,4 @@
--- The array that belongs to a draw number, in the words of 01. Assumes nothing.
+-- The array that belongs to a draw number, by the weights before it and with it. Assumes nothing.
 use mathlib.Core.Path.{_≡_, refl}
 use mathlib.Core.List.{List, [], _∷_}
 use Prim.Native.Nat.{ℕ, zero, suc, _+_, _-_, _<_, _≤_}

@@ -1,4 +1,4 @@
--- Plans that open, and for each condition of opening some that fail it; and draws (01, "Stored plan, form 1" and "Turned back"). The bytes are typed out,
+-- Plans that open, and for each condition of opening some that fail it; and draws (specification, "Stored plan, form 1" and "Refusals"). The bytes are typed out,
 -- and no definition of this project builds them. Assumes nothing.
 use mathlib.Core.List.{List, [], _∷_, _++_}
 use Prim.Native.Nat.{ℕ, _+_, _*_, _/_, _%_}

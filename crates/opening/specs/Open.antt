@@ -1,4 +1,4 @@
--- When a plan opens, and what a draw from it gives (01, "Stored plan, form 1" and "Turned back"). Assumes nothing.
+-- When a plan opens, and what a draw from it gives (specification, "Stored plan, form 1" and "Refusals"). Assumes nothing.
 use mathlib.Core.Path.{_≡_}
 use mathlib.Core.Bool.{Bool, not, _&&_}
 use mathlib.Core.List.{List, [], _∷_, _++_, map}
@@ -20,8 +20,7 @@ use Rattle.form.specs.declared.Sizes.{Sizes}
 use Rattle.form.specs.Plan.{Weighted, Plan, arrayFor}
 use Rattle.form.specs.Form.{rowsOf, columnsOf, denominatorOf, sizesOf, laidOut, decode}
 
--- "each cell, row total and column total of each array is the table's entry over D rounded down or up, whole ones kept":
--- the entries that an opened plan is held to
+-- the entries that the arrays of an opened plan are held to: each cell, row total and column total is the table's over D, rounded down or up
 abbrev pub heldTo : ℕ → ℕ → List (List ℕ)
 heldTo r c = lines r c
 
@@ -32,8 +31,7 @@ held p a = all (λ s. roundsTo (p .denominator) (total (p .cells) s) (total (a .
 abbrev pub weighted : List Weighted → ℕ → ℕ
 weighted l i = sum (map (λ a. a .weight * getD (a .counts) i 0) l)
 
--- "each weight is at least 1 and they add up to D; each cell, row total and column total [..]; and for each cell the counts times the weights
--- add up to g"; and a stored cell is at most 1000·D: else 6
+-- no cell is above 1000·D, no weight is 0, the weights make up D, every array is held to the entries, and the weighted counts make up each cell: else 6
 unfoldable pub consistent : Plan → Bool
 consistent p =
     cellsWithin (p .denominator) (p .cells)

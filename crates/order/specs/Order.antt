@@ -1,4 +1,4 @@
--- The order in which the cells of arrays are compared (01, "The rounding": "cell by cell in row order"). What depends on this order, here and above,
+-- The order in which the cells of arrays are compared (specification, "The rounding": "cell by cell in row order"). What depends on this order, here and above,
 -- goes through the three definitions of this file, the two functions of this crate and the laws on them. Assumes nothing.
 use Prim.Native.Nat.{ℕ, _+_, _*_, _/_, _%_}
 

@@ -1,4 +1,4 @@
--- The calls that tell what a stored plan has: its sizes, and its table. Beyond 01, so that no caller reads bytes. Assumes nothing.
+-- The calls that tell what a stored plan has: its sizes, and its table. Beyond the specification, so that no caller reads bytes. Assumes nothing.
 use mathlib.Core.List.{List, [], _∷_, _++_}
 use mathlib.Core.Option.{Option}
 use Prim.Native.Nat.{ℕ, _≤_}

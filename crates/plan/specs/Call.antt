@@ -1,4 +1,4 @@
--- The call "plan" (01, "Stored plan, form 1" and "Turned back": 1, 2, 3, 4, 7). Assumes nothing.
+-- The call "plan" (specification, "Stored plan, form 1" and "Refusals": 1, 2, 3, 4, 7). Assumes nothing.
 use mathlib.Core.Path.{_≡_}
 use mathlib.Core.List.{List, [], _∷_, _++_}
 use mathlib.Core.Option.{Option}
@@ -16,24 +16,24 @@ use Rattle.plan.specs.declared.Planned.{Planned}
 use Rattle.plan.specs.declared.Planned.the-variants.{Length, Refused}
 use Rattle.plan.specs.Rounds.{planOf}
 
--- "Planning it into a buffer with room gives its plan, the bytes of the returned length"
+-- the stored plan of a table
 unfoldable pub planBytes : ℕ → ℕ → ℕ → List ℕ → List ℕ
 planBytes r c d g = encode (planOf r c d g)
 
 -- the refusals of the call, with a buffer of `room` bytes: those of the table, 1 to 4; 7, the buffer is shorter than the plan
--- ("a buffer of just that length is enough")
+-- (one of just its length is enough)
 abbrev pub planTests : ℕ → ℕ → ℕ → List ℕ → ℕ → List Test
 planTests r c d g room = tableTests r c d g ++ (refuse Buffer (ltb room (length (planBytes r c d g))) ∷ [])
 
 unfoldable pub planRefusal : ℕ → ℕ → ℕ → List ℕ → ℕ → Option Refusal
 planRefusal r c d g room = due (planTests r c d g room)
 
--- "Planning writes this form at the start of the lent buffer and returns the length"
+-- the answer: the plan's length, or what is due
 unfoldable pub planAnswer : ℕ → ℕ → ℕ → List ℕ → ℕ → Planned
 planAnswer r c d g room = refusedOr Refused (Length (length (planBytes r c d g))) (planRefusal r c d g room)
 
 -- what the call is held to, with a buffer that holds `old`: its answer p, and what the buffer holds afterwards.
--- "On a refusal every lent buffer [..] keeps its contents."
+-- A refusal leaves the buffer as it was.
 pub record PlanAnswers (r c d : ℕ) (g old : List ℕ) (p : Planned) (new : List ℕ) : Type 0 where
   pub answer : p ≡ planAnswer r c d g (length old)
   pub buffer : new ≡ after (planRefusal r c d g (length old)) (written (planBytes r c d g) old) old

@@ -1,4 +1,4 @@
--- Literal cases of limits and of the call "plan" (01, "The plan", "Stored plan, form 1" and "Turned back"); its bytes are typed out. Assumes nothing.
+-- Literal cases of limits and of the call "plan" (specification, "The plan", "Stored plan, form 1" and "Refusals"); its bytes are typed out. Assumes nothing.
 use mathlib.Core.List.{List, [], _∷_, _++_}
 use Prim.Native.Nat.{ℕ}
 use lib.ListN.{length, replicate}

@@ -1,4 +1,4 @@
--- What holds of the plan of every accepted table (01, "The plan" and "What demand 3 speaks of"; Ernst 1981, Section 3). Assumes nothing.
+-- What holds of the plan of every accepted table (specification, "The plan" and "What every campaign is held to"; Ernst 1981, Section 3). Assumes nothing.
 use mathlib.Core.Path.{_≡_}
 use mathlib.Core.Bool.{true}
 use mathlib.Core.List.{List, map}
@@ -26,7 +26,7 @@ pub record Promises (r c d : ℕ) (g : List ℕ) : Type 0 where
   -- at most one array more than entries that are not whole, so at most 170
   pub few : length (planOf r c d g .arrays) ≤ notWhole r c d g + 1
   pub most : length (planOf r c d g .arrays) ≤ maxArrays
-  -- the stored plan has the length that 01 gives, from 30 to 50,912 bytes
+  -- the stored plan has the length of its form, from 30 to 50,912 bytes
   pub len : length (planBytes r c d g) ≡ planLength r c (length (planOf r c d g .arrays))
   pub len-low : minLength ≤ length (planBytes r c d g)
   pub len-high : length (planBytes r c d g) ≤ maxLength

@@ -1,4 +1,4 @@
--- Rounds, limits and weights: the plan of a table (01, "The plan"; Ernst 1981, Section 3). Assumes nothing.
+-- Rounds, limits and weights: the plan of a table (specification, "The plan"; Ernst 1981, Section 3). Assumes nothing.
 use mathlib.Core.Path.{_≡_}
 use mathlib.Core.Bool.{cond}
 use mathlib.Core.List.{List, [], _∷_, map, zipWith}
@@ -10,21 +10,20 @@ use Rattle.table.specs.Whole.{down, gap}
 use Rattle.rounding.specs.Rounding.{IsFirst, firstRounding}
 use Rattle.form.specs.Plan.{Weighted, Plan}
 
--- "Each entry has a limit: if its count n is the entry rounded down, the limit is (n+1)·W − entry (so W for a whole entry); if it is rounded up,
--- entry − (n−1)·W."
+-- the limit of an entry e over w with the count n: (n + 1)·w − e where n is e over w rounded down, which is w where e is whole, and else e − (n − 1)·w
 unfoldable pub limitOf : ℕ → ℕ → ℕ → ℕ
 limitOf w e n = cond (eqb n (down w e)) ((n + 1) * w - e) (e - (n - 1) * w)
 
--- "The weight w of N is the smallest limit over all entries."
+-- the weight of an array: the smallest limit of its entries
 unfoldable pub weightOf : ℕ → ℕ → ℕ → List ℕ → List ℕ → ℕ
 weightOf r c w g n = least (map (λ s. limitOf w (total g s) (total n s)) (entryPlaces r c))
 
--- "Then R loses w·N"
+-- what is left of a table when x times an array is taken
 unfoldable pub without : ℕ → List ℕ → List ℕ → List ℕ
 without x n g = zipWith (λ e k. e - x * k) g n
 
--- "the remaining weight W, at first D, and the remaining table R, at first g, whose denominator is W. A round is: N is the first controlled rounding
--- of R over W. [..] and W loses w. The plan ends when W is 0." At most `fuel` rounds.
+-- the rounds of what is left, a table g over the weight w: the first controlled rounding of g over w, with its weight, and then the rounds of what that
+-- leaves, until no weight is left. At most `fuel` rounds.
 unfoldable pub roundsFrom : ℕ → ℕ → ℕ → ℕ → List ℕ → List Weighted
 roundsFrom zero r c w g = []
 roundsFrom (suc fuel) r c zero g = []
@@ -45,7 +44,7 @@ pub record IsRound (r c w : ℕ) (g : List ℕ) (a : Weighted) : Type 0 where
   pub first : IsFirst r c w g (a .counts)
   pub weight : a .weight ≡ weightOf r c w g (a .counts)
 
--- Each array of a list is that of a round. "Then R loses w·N and W loses w. The plan ends when W is 0."
+-- Each array of a list is that of a round of what the ones before leave, and in the end no weight is left.
 unfoldable pub AreRounds : ℕ → ℕ → ℕ → List ℕ → List Weighted → Type 0
 AreRounds r c w g [] = w ≡ 0
 AreRounds r c w g (a ∷ l) = IsRound r c w g a × AreRounds r c (w - a .weight) (without (a .weight) (a .counts) g) l

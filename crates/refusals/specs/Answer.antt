@@ -1,4 +1,4 @@
--- The number of an answer (01, "Turned back"). Assumes nothing.
+-- The number of an answer (specification, "Refusals"). Assumes nothing.
 use Prim.Native.Nat.{ℕ}
 use Rattle.refusals.specs.declared.Answer.{Answer}
 use Rattle.refusals.specs.declared.Answer.the-variants.{Done, Refused}

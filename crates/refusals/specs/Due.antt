@@ -1,4 +1,4 @@
--- Which refusal a call returns: the first of its list that applies (01, "Turned back"). Assumes nothing.
+-- Which refusal a call returns: the first of its list that applies (specification, "Refusals"). Assumes nothing.
 use mathlib.Core.Path.{_≡_}
 use mathlib.Core.Bool.{Bool, true, false, not}
 use mathlib.Core.List.{List, [], _∷_, _++_}

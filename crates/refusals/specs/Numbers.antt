@@ -1,9 +1,9 @@
--- Refusals and their numbers (01, "Turned back"). Assumes nothing.
+-- Refusals and their numbers (specification, "Refusals"). Assumes nothing.
 use Prim.Native.Nat.{ℕ}
 use Rattle.refusals.specs.declared.Refusal.{Refusal}
 use Rattle.refusals.specs.declared.Refusal.the-variants.{Size, Denominator, CellCount, LargeCell, Layout, Content, Buffer, Number, Record, Taken}
 
--- the number of each refusal in the table of "Turned back"
+-- the number of each refusal
 abbrev pub numberOf : Refusal → ℕ
 numberOf Size = 1
 numberOf Denominator = 2

@@ -1,4 +1,4 @@
--- The call "rounding" (01, "Turned back"). Assumes nothing.
+-- The call "rounding" (specification, "Refusals"). Assumes nothing.
 use mathlib.Core.List.{List, [], _∷_, _++_}
 use mathlib.Core.Option.{Option}
 use Prim.Native.Nat.{ℕ, _*_}

@@ -1,4 +1,4 @@
--- Literal cases of controlled roundings, of the first of them and of the call "rounding" (01, "The rounding" and "Turned back"). Assumes nothing.
+-- Literal cases of controlled roundings, of the first of them and of the call "rounding" (specification, "The rounding" and "Refusals"). Assumes nothing.
 use mathlib.Core.Bool.{Bool, true, false}
 use mathlib.Core.List.{List, [], _∷_}
 use Prim.Native.Nat.{ℕ}

@@ -1,4 +1,4 @@
--- The order of arrays, and a search for the first of them (01, "The rounding"). Assumes nothing.
+-- The order of arrays, and a search for the first of them (specification, "The rounding"). Assumes nothing.
 use mathlib.Core.Path.{_≡_}
 use mathlib.Core.Logic.{_⊎_}
 use mathlib.Core.Bool.{Bool, true, false}
@@ -22,7 +22,7 @@ Smaller [] n = ⊥
 Smaller (x ∷ k) [] = ⊥
 Smaller (x ∷ k) (y ∷ n) = (x < y) ⊎ ((x ≡ y) × Smaller k n)
 
--- "arrays are compared cell by cell in row order; at the first difference the smaller count comes first": k comes before n
+-- array k comes before array n: at the first cell, in the order of cells, where they differ, it has the smaller count
 abbrev pub Before : ℕ → ℕ → List ℕ → List ℕ → Type 0
 Before r c k n = Smaller (inOrder r c k) (inOrder r c n)
 

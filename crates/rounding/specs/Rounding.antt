@@ -1,4 +1,4 @@
--- Controlled roundings, and the first of them (01, "The rounding"). Assumes nothing.
+-- Controlled roundings, and the first of them (specification, "The rounding"). Assumes nothing.
 use mathlib.Core.Path.{_≡_}
 use mathlib.Core.Bool.{Bool, true, _&&_}
 use mathlib.Core.List.{List, [], map}
@@ -11,12 +11,12 @@ use Rattle.table.specs.Table.{total, entryPlaces}
 use Rattle.table.specs.Whole.{down, up, roundsTo}
 use Rattle.rounding.specs.Order.{inOrder, arrayOf, Before, Choice, firstOf}
 
--- "A controlled rounding is an array of counts n, one a cell [..], with totals formed from it. Each of its entries, totals included,
--- is the entry of the table divided by D, rounded down or up; a whole entry stays." The denominator is w; a count of an accepted table is at most 1,000.
+-- n has one count a cell, and each of its entries, totals included, is the table's over w, rounded down or up; a whole one stays. A count of an accepted table
+-- is at most 1,000.
 unfoldable pub isRounding : ℕ → ℕ → ℕ → List ℕ → List ℕ → Bool
 isRounding r c w g n = eqb (length n) (r * c) && all (λ s. roundsTo w (total g s) (total n s)) (entryPlaces r c)
 
--- "the first array of this order is always taken"
+-- a controlled rounding that no other comes before
 pub record IsFirst (r c w : ℕ) (g n : List ℕ) : Type 0 where
   pub rounding : isRounding r c w g n ≡ true
   pub first : (k : List ℕ) → isRounding r c w g k ≡ true → Before r c k n → ⊥

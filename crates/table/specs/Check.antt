@@ -1,4 +1,4 @@
--- Which refusal a table meets (01, "Turned back"). Assumes nothing.
+-- Which refusal a table meets (specification, "Refusals"). Assumes nothing.
 use mathlib.Core.Bool.{Bool, not, _&&_}
 use mathlib.Core.List.{List, [], _∷_}
 use mathlib.Core.Option.{Option}

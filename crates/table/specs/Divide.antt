@@ -1,4 +1,4 @@
--- What the division of an entry gives (01, "The rounding"). Assumes nothing.
+-- What the division of an entry gives (specification, "The rounding"). Assumes nothing.
 use mathlib.Core.Path.{_≡_}
 use Prim.Native.Nat.{ℕ}
 use Rattle.table.specs.declared.whole.Divided.{Divided}

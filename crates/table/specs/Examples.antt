@@ -1,4 +1,4 @@
--- Literal cases of a table's check, of its entries and of the rounding of one entry (01, "From table to campaign", "The rounding" and "Turned back").
+-- Literal cases of a table's check, of its entries and of the rounding of one entry (specification, "From table to campaign", "The rounding" and "Refusals").
 -- Assumes nothing.
 use mathlib.Core.Bool.{Bool, true, false}
 use mathlib.Core.List.{List, [], _∷_, map}

@@ -1,10 +1,10 @@
--- Tables and their entries (01, "From table to campaign"). Assumes nothing.
+-- Tables and their entries (specification, "From table to campaign"). Assumes nothing.
 use mathlib.Core.List.{List, [], _∷_, _++_, map}
 use Prim.Native.Nat.{ℕ, _+_, _*_}
 use lib.ListN.{getD}
 use Rattle.base.specs.Lists.{tabulate, sum}
 
--- "Bounds: 12 rows, 12 columns, 170 arrays, 65,535 for the denominator; a cell at most 1000·D."
+-- the bounds: rows, columns, arrays, the denominator, and a cell over the denominator
 abbrev pub maxRows : ℕ
 maxRows = 12
 
@@ -32,7 +32,7 @@ maxEntries = 169
 abbrev pub maxEntry : ℕ
 maxEntry = 9437040000
 
--- "A table has r rows, c columns, a denominator D and r·c cells g, whole numbers held in row order." The place of a cell is its index in that order.
+-- The cells of a table are listed row by row; the place of a cell is its index in that list.
 -- The places from `start` on, `step` apart: every entry is a sum over such places.
 abbrev pub places : ℕ → ℕ → ℕ → List ℕ
 places start step count = tabulate count (λ k. start + k * step)
@@ -53,7 +53,7 @@ allPlaces r c = places 0 1 (r * c)
 unfoldable pub lines : ℕ → ℕ → List (List ℕ)
 lines r c = tabulate (r * c) cellPlaces ++ (tabulate r (rowPlaces c) ++ tabulate c (columnPlaces r c))
 
--- "Entries of a table are its cells, row totals, column totals and grand total, in this order": the places that each is the sum of
+-- the entries in their order, cells, row totals, column totals, grand total, each by the places that it is the sum of
 unfoldable pub entryPlaces : ℕ → ℕ → List (List ℕ)
 entryPlaces r c = lines r c ++ (allPlaces r c ∷ [])
 

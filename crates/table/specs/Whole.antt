@@ -1,4 +1,4 @@
--- Rounding down and up, whole entries and the rounding of one entry (01, "From table to campaign" and "The rounding"). Assumes nothing.
+-- Rounding down and up, whole entries and the rounding of one entry (specification, "From table to campaign" and "The rounding"). Assumes nothing.
 use mathlib.Core.Bool.{Bool, cond, not, _&&_, _||_}
 use Prim.Native.Nat.{ℕ, _+_, _/_, _%_}
 use lib.Dec.{eqb}
@@ -7,7 +7,7 @@ use lib.Dec.{eqb}
 abbrev pub down : ℕ → ℕ → ℕ
 down w e = e / w
 
--- "An entry is whole if D divides it."
+-- w divides the entry
 unfoldable pub whole : ℕ → ℕ → Bool
 whole w e = eqb (e % w) 0
 
@@ -19,6 +19,6 @@ gap w e = cond (whole w e) 0 1
 abbrev pub up : ℕ → ℕ → ℕ
 up w e = down w e + gap w e
 
--- "Each of its entries, totals included, is the entry of the table divided by D, rounded down or up; a whole entry stays."
+-- the count n is the entry over w, rounded down or up; of a whole entry it is the entry over w
 unfoldable pub roundsTo : ℕ → ℕ → ℕ → Bool
 roundsTo w e n = eqb n (down w e) || (not (whole w e) && eqb n (down w e + 1))

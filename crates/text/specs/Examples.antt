@@ -1,4 +1,4 @@
--- Texts, what they are parsed to and what is printed of them (01, "The printing program" and "Examples"). Assumes nothing.
+-- Texts, what they are parsed to and what is printed of them (specification, "The printing program" and "Examples"). Assumes nothing.
 use mathlib.Core.List.{List, [], _∷_}
 use mathlib.Core.Option.{Option, some, none}
 use Prim.Native.Nat.{ℕ}
@@ -56,7 +56,7 @@ pub record Output : Type 0 where
 
 abbrev pub outputs : List Output
 outputs =
-    -- 2 2 10 3 4 5 6 gives the listing of 01
+    -- 2 2 10 3 4 5 6 gives the listing of the specification
     record {
       text = 50 ∷ 32 ∷ 50 ∷ 32 ∷ 49 ∷ 48 ∷ 32 ∷ 51 ∷ 32 ∷ 52 ∷ 32 ∷ 53 ∷ 32 ∷ 54 ∷ [];
       prints =

@@ -1,4 +1,4 @@
--- The printing program's text, in and out (01, "The printing program"). Assumes nothing.
+-- The printing program's text, in and out (specification, "The printing program"). Assumes nothing.
 use mathlib.Core.Bool.{Bool, true, false, cond, _&&_, _||_}
 use mathlib.Core.List.{List, [], _∷_, _++_, map}
 use mathlib.Core.Option.{Option, some, none}
@@ -12,15 +12,15 @@ use Rattle.table.specs.Check.{tableRefusal}
 use Rattle.form.specs.Plan.{Plan}
 use Rattle.plan.specs.Rounds.{planOf}
 
--- "It reads up to 4,096 bytes"
+-- the longest text
 abbrev pub maxText : ℕ
 maxText = 4096
 
--- "digits 0 to 9"
+-- a byte that is a digit, 0 to 9
 abbrev pub isDigit : ℕ → Bool
 isDigit x = leb 48 x && leb x 57
 
--- "spaces or line ends (byte 10)"
+-- a space or a line end
 abbrev pub isGap : ℕ → Bool
 isGap x = eqb x 32 || eqb x 10
 
@@ -28,28 +28,27 @@ isGap x = eqb x 32 || eqb x 10
 abbrev pub isText : ℕ → Bool
 isText x = isDigit x || isGap x
 
--- "numbers (digits 0 to 9, leading zeros allowed) separated by one or more spaces or line ends (byte 10), which may also stand first and last":
--- the numbers in some bytes; `some v` is the value of the digits just read, if any. (The last case goes one way only, where `cond` would compute both.)
+-- the numbers in some bytes, each a run of digits; `some v` is the value of the digits just read, if any. (The last case goes one way only, where `cond` would compute both.)
 unfoldable pub numbersFrom : Option ℕ → List ℕ → List ℕ
 numbersFrom none [] = []
 numbersFrom (some v) [] = v ∷ []
 numbersFrom none (x ∷ l) = cond (isDigit x) (numbersFrom (some (x - 48)) l) (numbersFrom none l)
 numbersFrom (some v) (x ∷ l) = elim (isDigit x) [ true ↦ numbersFrom (some (v * 10 + (x - 48))) l | false ↦ v ∷ numbersFrom none l ]
 
--- no "number above 4,294,967,295"
+-- the highest number
 abbrev pub maxNumber : ℕ
 maxNumber = 4294967295
 
 abbrev pub isNumber : ℕ → Bool
 isNumber x = leb x maxNumber
 
--- "Another byte, fewer than three numbers, a number above 4,294,967,295 or a longer input prints `refused text`": none; else the numbers
+-- the numbers of a text; none where it is too long, has another byte, fewer than three numbers or one that is too high
 unfoldable pub parse : List ℕ → Option (List ℕ)
 parse s =
     let n = numbersFrom none s in
     cond (leb (length s) maxText) (cond (all isText s) (cond (leb 3 (length n)) (cond (all isNumber n) (some n) none) none) none) none
 
--- "All numbers here are written in base ten.": the digits of a number of at most n + 1 digits, and of one of 32 bits
+-- the digits, in base ten, of a number of at most n + 1 digits, and of one of 32 bits
 unfoldable pub digits : ℕ → ℕ → List ℕ
 digits zero x = (48 + x) ∷ []
 digits (suc n) x = cond (ltb x 10) ((48 + x) ∷ []) (digits n (x / 10) ++ ((48 + x % 10) ∷ []))
@@ -57,13 +56,13 @@ digits (suc n) x = cond (ltb x 10) ((48 + x) ∷ []) (digits n (x / 10) ++ ((48 
 unfoldable pub decimal : ℕ → List ℕ
 decimal x = digits 9 x
 
--- "one space between"
+-- one space between the numbers
 unfoldable pub spaced : List ℕ → List ℕ
 spaced [] = []
 spaced (x ∷ []) = decimal x
 spaced (x ∷ y ∷ l) = decimal x ++ (32 ∷ spaced (y ∷ l))
 
--- "Each printed line ends with byte 10."
+-- a line ends with byte 10
 unfoldable pub line : List ℕ → List ℕ
 line l = spaced l ++ (10 ∷ [])
 
@@ -71,7 +70,7 @@ unfoldable pub printedLines : List (List ℕ) → List ℕ
 printedLines [] = []
 printedLines (l ∷ ls) = line l ++ printedLines ls
 
--- "It prints `r c D K`, then a line an array: the weight, then the counts in row order"
+-- the numbers of each line: the sizes, and then for each array its weight and its counts
 unfoldable pub lineNumbers : Plan → List (List ℕ)
 lineNumbers p = (p .rows ∷ p .columns ∷ p .denominator ∷ length (p .arrays) ∷ []) ∷ map (λ a. a .weight ∷ a .counts) (p .arrays)
 
@@ -82,11 +81,11 @@ listing p = printedLines (lineNumbers p)
 abbrev pub refusedWord : List ℕ
 refusedWord = 114 ∷ 101 ∷ 102 ∷ 117 ∷ 115 ∷ 101 ∷ 100 ∷ []
 
--- "A refusal prints `refused`, a space and its number."
+-- the word, a space and the refusal's number
 unfoldable pub refused : ℕ → List ℕ
 refused n = refusedWord ++ (32 ∷ line (n ∷ []))
 
--- "prints `refused text`"
+-- the two words
 abbrev pub refusedText : List ℕ
 refusedText = refusedWord ++ (32 ∷ 116 ∷ 101 ∷ 120 ∷ 116 ∷ 10 ∷ [])
 
@@ -94,11 +93,11 @@ refusedText = refusedWord ++ (32 ∷ 116 ∷ 101 ∷ 120 ∷ 116 ∷ 10 ∷ [])
 abbrev pub tableOutput : ℕ → ℕ → ℕ → List ℕ → List ℕ
 tableOutput r c d g = refusedOr (λ x. refused (numberOf x)) (listing (planOf r c d g)) (tableRefusal r c d g)
 
--- "r, c, D, then the cells": what is printed of the numbers
+-- the numbers are r, c, D and then the cells: what is printed of them
 abbrev pub printed : Option (List ℕ) → List ℕ
 printed none = refusedText
 printed (some n) = tableOutput (getD n 0 0) (getD n 1 0) (getD n 2 0) (drop 3 n)
 
--- what the program prints of an input; `refused text` comes "before any other test"
+-- what the program prints of an input; `refused text` comes before any other refusal
 unfoldable pub output : List ℕ → List ℕ
 output s = printed (parse s)
