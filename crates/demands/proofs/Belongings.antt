@@ -3,6 +3,7 @@ use mathlib.Core.Path.{_≡_, ap, _∙_, subst}
 use mathlib.Core.List.{List, [], _∷_, map}
 use Prim.Native.Nat.{ℕ, suc, _+_, _-_, _<_, _≤_}
 use native.Mathlib.Nat.{not-suc-le-zero}
+use native.Mathlib.Numerals.{add-one}
 use native.Mathlib.Decide.{decLt}
 use native.Mathlib.Omega.{arith}
 use Rattle.base.specs.Lists.{sum, sumTo}
@@ -11,9 +12,6 @@ use Rattle.form.specs.Plan.{Weighted, arrayAt}
 use Rattle.opening.specs.Parts.{weightsBefore, Belongs}
 use Rattle.opening.proofs.Belonging.{before-front, array-for}
 use Rattle.demands.specs.Numbers.{Belonging}
-
-add-one : (n : ℕ) → n + 1 ≡ suc n
-add-one n = omega arith
 
 -- the place of a number's array
 record Place (l : List Weighted) (d : ℕ) : Type 0 where

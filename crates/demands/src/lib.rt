@@ -3,7 +3,7 @@
 //
 // Demand 1, that no call runs without end, touches memory that it was not lent, or goes unrefused: being proved means the first two; `refusals` says which
 // refusal each call returns; that a refusal leaves every lent buffer as it was is in each call's contract (`after`).
-// Demand 2, that every plan is the specification's: `plans`. A stored plan opens just if it meets the stated conditions: `opens`.
+// Demand 2, that every plan is the specification's: `plans`; that the call writes just this plan is the contract of `plan::plan`. A stored plan opens just if it meets the stated conditions: `opens`.
 // Demand 3, on campaigns: `every_run`, for any plan that opens; and `serves`, for the plan of every accepted table.
 ghost use mathlib.Core.Path.{_≡_};
 ghost use mathlib.Core.Bool.{true};
