@@ -9,3 +9,4 @@ pub mod Filling
 pub mod Tests
 pub mod Tabulated
 pub mod Listing
+pub mod Zips

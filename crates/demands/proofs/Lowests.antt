@@ -1,8 +1,8 @@
--- Where the numbers of a call's list never fall, the refusal that is due is the lowest that applies. Assumes nothing.
+-- Where the ranks of a call's list never fall, the refusal that is due is the lowest that applies. Assumes nothing.
 use mathlib.Core.Path.{_≡_, refl, sym, ap, ap₂, _∙_, subst}
 use mathlib.Core.Bool.{Bool, true, false, _&&_}
 use mathlib.Core.List.{List, [], _∷_, List·Memᴰ as Member, List·Memᴰ·head as here, List·Memᴰ·tail as there}
-use mathlib.Core.Option.{some, none}
+use mathlib.Core.Option.{some}
 use Prim.Native.Nat.{ℕ, _≤_}
 use native.Mathlib.Nat.{le-refl}
 use native.Mathlib.Omega.{arith}
@@ -21,60 +21,61 @@ use Rattle.parts.specs.Parts.{partRefusal}
 use Rattle.campaign.specs.Record.{startRefusal, campaignRefusal}
 use Rattle.demands.specs.Refusals.{Lowest, Refuses, EachRefuses}
 
--- no row has a higher number than a row after it
-abbrev before : Test → Test → Bool
-before t u = leb (numberOf (t .refusal)) (numberOf (u .refusal))
+module _ (rank : Refusal → ℕ) where
+  -- no row ranks higher than a row after it
+  abbrev before : Test → Test → Bool
+  before t u = leb (rank (t .refusal)) (rank (u .refusal))
 
-unfoldable rising : List Test → Bool
-rising [] = true
-rising (t ∷ l) = all (before t) l && rising l
+  unfoldable rising : List Test → Bool
+  rising [] = true
+  rising (t ∷ l) = all (before t) l && rising l
 
-module _ (t : Test) (l : List Test) (up : rising (t ∷ l) ≡ true) where
-  above : all (before t) l ≡ true
-  unfolding rising
-  above = and-left (all (before t) l) (rising l) up
+  module _ (t : Test) (l : List Test) (up : rising (t ∷ l) ≡ true) where
+    above : all (before t) l ≡ true
+    unfolding rising
+    above = and-left (all (before t) l) (rising l) up
 
-  above-rest : rising l ≡ true
-  unfolding rising
-  above-rest = and-right (all (before t) l) (rising l) up
+    above-rest : rising l ≡ true
+    unfolding rising
+    above-rest = and-right (all (before t) l) (rising l) up
 
--- the row of a member that applies, at the front of the list or after it
-in-front : (t : Test) (l : List Test) (y : Refusal) → t .applies ≡ true → rising (t ∷ l) ≡ true → Member (refuse y true) (t ∷ l) → numberOf (t .refusal) ≤ numberOf y
-in-front t l y e up (here q) = let z : y ≡ t .refusal = ap (λ (u : Test). u .refusal) q in rw z (le-refl _)
-in-front t l y e up (there m) = leb-true _ _ (all-at-member (before t) l (above t l up) m)
+  -- the row of a member that applies, at the front of the list or after it
+  in-front : (t : Test) (l : List Test) (y : Refusal) → t .applies ≡ true → rising (t ∷ l) ≡ true → Member (refuse y true) (t ∷ l) → rank (t .refusal) ≤ rank y
+  in-front t l y e up (here q) = let z : y ≡ t .refusal = ap (λ (u : Test). u .refusal) q in rw z (le-refl _)
+  in-front t l y e up (there m) = leb-true _ _ (all-at-member (before t) l (above t l up) m)
 
-behind : (t : Test) (l : List Test) (y : Refusal) → t .applies ≡ false → Member (refuse y true) (t ∷ l) → Member (refuse y true) l
-behind t l y e (here q) = absurd (let z : _≡_ {A = Bool} true false = ap (λ (u : Test). u .applies) q ∙ e in let n : _≡_ {A = ℕ} 0 1 = cc in omega arith)
-behind t l y e (there m) = m
+  behind : (t : Test) (l : List Test) (y : Refusal) → t .applies ≡ false → Member (refuse y true) (t ∷ l) → Member (refuse y true) l
+  behind t l y e (here q) = absurd (let z : _≡_ {A = Bool} true false = ap (λ (u : Test). u .applies) q ∙ e in let n : _≡_ {A = ℕ} 0 1 = cc in omega arith)
+  behind t l y e (there m) = m
 
-lowest : (l : List Test) → rising l ≡ true → (x : Refusal) → due l ≡ some x → Lowest l x
-unfolding due
-lowest [] up x h = absurd (let z : _≡_ {A = ℕ} 0 1 = cc in omega arith)
-lowest (t ∷ l) up x h = go (t .applies) refl (lowest l (above-rest t l up) x)
-  where
-    go : (b : Bool) → t .applies ≡ b → (due l ≡ some x → Lowest l x) → Lowest (t ∷ l) x
-    go true e next =
-        let is : some (t .refusal) ≡ some x = sym (due-here t l e) ∙ h in
-        let r : t .refusal ≡ x = cc in
-        record {
-          applies = here (ap₂ refuse (sym r) (sym e));
-          lowest = λ y m. subst (λ (z : Refusal). numberOf z ≤ numberOf y) r (in-front t l y e up m);
-        }
-    go false e next =
-        let k = next (sym (due-next t l e) ∙ h) in
-        record { applies = there (k .applies); lowest = λ y m. k .lowest y (behind t l y e m) }
+  lowest : (l : List Test) → rising l ≡ true → (x : Refusal) → due l ≡ some x → Lowest rank l x
+  unfolding due
+  lowest [] up x h = absurd (let z : _≡_ {A = ℕ} 0 1 = cc in omega arith)
+  lowest (t ∷ l) up x h = go (t .applies) refl (lowest l (above-rest t l up) x)
+    where
+      go : (b : Bool) → t .applies ≡ b → (due l ≡ some x → Lowest rank l x) → Lowest rank (t ∷ l) x
+      go true e next =
+          let is : some (t .refusal) ≡ some x = sym (due-here t l e) ∙ h in
+          let r : t .refusal ≡ x = cc in
+          record {
+            applies = here (ap₂ refuse (sym r) (sym e));
+            lowest = λ y m. subst (λ (z : Refusal). rank z ≤ rank y) r (in-front t l y e up m);
+          }
+      go false e next =
+          let k = next (sym (due-next t l e) ∙ h) in
+          record { applies = there (k .applies); lowest = λ y m. k .lowest y (behind t l y e m) }
 
-refuses : (l : List Test) → rising l ≡ true → Refuses l (due l)
-refuses l up = record { refused = lowest l up; accepted = none-applies l }
+  refuses : (l : List Test) → rising l ≡ true → Refuses rank l (due l)
+  refuses l up = record { refused = lowest l up; accepted = none-applies l }
 
 pub each-refuses : EachRefuses
 unfolding rising all roundRefusal planRefusal openRefusal partRefusal drawRefusal startRefusal campaignRefusal
 each-refuses = record {
-  rounding = λ r c d g room. refuses _ refl;
-  plan = λ r c d g room. refuses _ refl;
-  opening = λ b. refuses _ refl;
-  parts = λ b need room. refuses _ refl;
-  draw = λ b d room. refuses _ refl;
-  start = λ b s. refuses _ refl;
-  campaign-draw = λ b d s room. refuses _ refl;
+  rounding = λ r c d g room. refuses numberOf _ refl;
+  plan = λ r c d g room. refuses numberOf _ refl;
+  opening = λ b. refuses numberOf _ refl;
+  parts = λ b need room. refuses numberOf _ refl;
+  draw = λ b d room. refuses numberOf _ refl;
+  start = λ b s. refuses numberOf _ refl;
+  campaign-draw = λ b d s room. refuses numberOf _ refl;
 }

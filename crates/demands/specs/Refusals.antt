@@ -13,23 +13,23 @@ use Rattle.opening.specs.Open.{openTests, openRefusal, drawTests, drawRefusal}
 use Rattle.parts.specs.Parts.{partTests, partRefusal}
 use Rattle.campaign.specs.Record.{CampaignRecord, startTests, startRefusal, campaignTests, campaignRefusal}
 
--- of the conditions of a list, that of x holds, and no condition with a lower number does
-pub record Lowest (l : List Test) (x : Refusal) : Type 0 where
+-- of the conditions of a list, that of x holds, and no condition whose refusal ranks lower does
+pub record Lowest (rank : Refusal → ℕ) (l : List Test) (x : Refusal) : Type 0 where
   pub applies : Member (refuse x true) l
-  pub lowest : (y : Refusal) → Member (refuse y true) l → numberOf x ≤ numberOf y
+  pub lowest : (y : Refusal) → Member (refuse y true) l → rank x ≤ rank y
 
--- what is returned applies, and nothing with a lower number does; where nothing is returned, no condition holds
-pub record Refuses (l : List Test) (o : Option Refusal) : Type 0 where
-  pub refused : (x : Refusal) → o ≡ some x → Lowest l x
+-- what is returned applies, and nothing that ranks lower does; where nothing is returned, no condition holds
+pub record Refuses (rank : Refusal → ℕ) (l : List Test) (o : Option Refusal) : Type 0 where
+  pub refused : (x : Refusal) → o ≡ some x → Lowest rank l x
   pub accepted : o ≡ none → noneApplies l ≡ true
 
--- so of every call, whatever it is lent
+-- so of every call, whatever it is lent: the lowest number
 pub record EachRefuses : Type 0 where
-  pub rounding : (r c d : ℕ) (g : List ℕ) (room : ℕ) → Refuses (roundTests r c d g room) (roundRefusal r c d g room)
-  pub plan : (r c d : ℕ) (g : List ℕ) (room : ℕ) → Refuses (planTests r c d g room) (planRefusal r c d g room)
-  pub opening : (b : List ℕ) → Refuses (openTests b) (openRefusal b)
+  pub rounding : (r c d : ℕ) (g : List ℕ) (room : ℕ) → Refuses numberOf (roundTests r c d g room) (roundRefusal r c d g room)
+  pub plan : (r c d : ℕ) (g : List ℕ) (room : ℕ) → Refuses numberOf (planTests r c d g room) (planRefusal r c d g room)
+  pub opening : (b : List ℕ) → Refuses numberOf (openTests b) (openRefusal b)
   -- the sizes and the table of a plan, which need a number of places
-  pub parts : (b : List ℕ) (need room : ℕ) → Refuses (partTests b need room) (partRefusal b need room)
-  pub draw : (b : List ℕ) (d room : ℕ) → Refuses (drawTests b d room) (drawRefusal b d room)
-  pub start : (b : List ℕ) (s : CampaignRecord) → Refuses (startTests b s) (startRefusal b s)
-  pub campaign-draw : (b : List ℕ) (d : ℕ) (s : CampaignRecord) (room : ℕ) → Refuses (campaignTests b d s room) (campaignRefusal b d s room)
+  pub parts : (b : List ℕ) (need room : ℕ) → Refuses numberOf (partTests b need room) (partRefusal b need room)
+  pub draw : (b : List ℕ) (d room : ℕ) → Refuses numberOf (drawTests b d room) (drawRefusal b d room)
+  pub start : (b : List ℕ) (s : CampaignRecord) → Refuses numberOf (startTests b s) (startRefusal b s)
+  pub campaign-draw : (b : List ℕ) (d : ℕ) (s : CampaignRecord) (room : ℕ) → Refuses numberOf (campaignTests b d s room) (campaignRefusal b d s room)

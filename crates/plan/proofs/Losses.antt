@@ -1,28 +1,23 @@
 -- What a round takes off a table. Assumes nothing.
-use mathlib.Core.Path.{_≡_, refl, ap}
-use mathlib.Core.List.{List, [], _∷_, map, zipWith}
-use Prim.Native.Nat.{ℕ, zero, suc, _+_, _-_, _*_, _≤_}
+use mathlib.Core.Path.{_≡_, sym}
+use mathlib.Core.List.{List, [], _∷_, map}
+use Prim.Native.Nat.{ℕ, _+_, _-_, _*_, _≤_}
 use native.Mathlib.Nat.{mul-add, mul-zero}
 use native.Mathlib.Omega.{arith}
 use lib.ListN.{length, getD}
 use Rattle.base.specs.Lists.{sum}
+use Rattle.base.proofs.Zips.{zip-length, zip-at}
 use Rattle.table.specs.Table.{total}
 use Rattle.plan.specs.Rounds.{without}
 
-pub without-length : (x : ℕ) (n g : List ℕ) → length n ≡ length g → length (without x n g) ≡ length g
-unfolding without zipWith
-without-length x [] [] e = refl
-without-length x [] (y ∷ g) e = absurd (omega arith)
-without-length x (k ∷ n) [] e = absurd (omega arith)
-without-length x (k ∷ n) (y ∷ g) e = ap suc (without-length x n g (omega arith))
+module _ (x : ℕ) (n g : List ℕ) (e : length n ≡ length g) where
+  pub without-length : length (without x n g) ≡ length g
+  unfolding without
+  without-length = zip-length _ g n (sym e)
 
-pub without-at : (x : ℕ) (n g : List ℕ) → length n ≡ length g → (i : ℕ) → getD (without x n g) i 0 ≡ getD g i 0 - x * getD n i 0
-unfolding without zipWith
-without-at x [] [] e i = omega (arith, mul-zero x)
-without-at x [] (y ∷ g) e i = absurd (omega arith)
-without-at x (k ∷ n) [] e i = absurd (omega arith)
-without-at x (k ∷ n) (y ∷ g) e zero = refl
-without-at x (k ∷ n) (y ∷ g) e (suc i) = without-at x n g (omega arith) i
+  pub without-at : (i : ℕ) → getD (without x n g) i 0 ≡ getD g i 0 - x * getD n i 0
+  unfolding without
+  without-at i = zip-at _ (omega (arith, mul-zero x)) g n (sym e) i
 
 -- for any places
 module _ (x : ℕ) (n g : List ℕ) (e : length n ≡ length g) (enough : (i : ℕ) → x * getD n i 0 ≤ getD g i 0) where

@@ -1,6 +1,6 @@
 -- The ways through the call "plan". Assumes nothing.
 use mathlib.Core.Path.{_≡_, refl, sym, ap, _∙_}
-use mathlib.Core.List.{List, _++_}
+use mathlib.Core.List.{List}
 use mathlib.Core.Option.{Option, some, none}
 use Prim.Native.Nat.{ℕ, _≤_, _<_}
 use native.Mathlib.Nat.{mul-le-mul}
@@ -9,11 +9,11 @@ use lib.ListN.{length}
 use mir.Val.{Fits}
 use mir.Syntax.{w32}
 use Rattle.base.specs.Buffers.{written}
-use Rattle.refusals.specs.Numbers.{numberOf}
 use Rattle.refusals.specs.declared.Refusal.{Refusal}
-use Rattle.refusals.specs.declared.Refusal.the-variants.{Size, Denominator, CellCount, LargeCell, Layout, Content, Buffer, Number, Record, Taken}
-use Rattle.refusals.specs.Due.{Test, due, refusedOr, after}
-use Rattle.refusals.proofs.Dues.{due-first}
+use Rattle.refusals.specs.declared.Refusal.the-variants.{Buffer}
+use Rattle.refusals.specs.Due.{refusedOr, after}
+use Rattle.refusals.proofs.Dues.{first-none}
+use Rattle.refusals.proofs.Numbering.{number-small}
 use Rattle.table.specs.Shape.{IsTable}
 use Rattle.table.specs.Check.{tableTests, tableRefusal, checkOf}
 use Rattle.table.specs.declared.Table.{Table}
@@ -93,31 +93,10 @@ module _ (r c d : ℕ) (g : List ℕ) {k : Checked} (e : k ≡ checkOf r c d g) 
     pub answered : {old new : List ℕ} {p : Planned} → PlanAnswers (t .rows) (t .columns) (t .denominator) g old p new → PlanAnswers r c d g old p new
     answered f = rw (taken r c d g e t h .sizes) at f
 
--- nothing is due of one list and another: nothing is due of the first
-first-none : (l m : List Test) → due (l ++ m) ≡ none → due l ≡ none
-first-none l m h = go (due l) refl
-  where
-    go : (o : Option Refusal) → due l ≡ o → due l ≡ none
-    go none q = q
-    go (some x) q = absurd (let y = due-first l m x q in let z : _≡_ {A = ℕ} 0 1 = cc in omega arith)
-
--- a refusal's number is below any length
-refusal-small : (x : Refusal) → numberOf x < 30
-refusal-small Size = omega arith
-refusal-small Denominator = omega arith
-refusal-small CellCount = omega arith
-refusal-small LargeCell = omega arith
-refusal-small Layout = omega arith
-refusal-small Content = omega arith
-refusal-small Buffer = omega arith
-refusal-small Number = omega arith
-refusal-small Record = omega arith
-refusal-small Taken = omega arith
-
 pub number-apart : {r c d : ℕ} {g old new : List ℕ} {p : Planned} → PlanAnswers r c d g old p new → Apart p
 unfolding planAnswer planRefusal tableRefusal
 number-apart {r} {c} {d} {g} {old} f = rw (f .answer) (go (planRefusal r c d g (length old)) refl)
   where
     go : (o : Option Refusal) → planRefusal r c d g (length old) ≡ o → Apart (refusedOr Refused (Length (length (planBytes r c d g))) o)
-    go (some x) q = refusal-small x
+    go (some x) q = number-small x
     go none q = promised (passed-all r c d g (first-none (tableTests r c d g) _ q)) .len-low

@@ -46,6 +46,14 @@ pub due-second : (l m : List Test) → due l ≡ none → due (l ++ m) ≡ due m
 due-second [] m h = refl
 due-second (t ∷ l) m h = due-next t (l ++ m) (not-here t l h) ∙ due-second l m (not-later t l h)
 
+-- nothing is due of one list and another: nothing is due of the first
+pub first-none : (l m : List Test) → due (l ++ m) ≡ none → due l ≡ none
+first-none l m h = go (due l) refl
+  where
+    go : (o : Option Refusal) → due l ≡ o → due l ≡ none
+    go none q = q
+    go (some x) q = absurd (let y = due-first l m x q in let z : _≡_ {A = ℕ} 0 1 = cc in omega arith)
+
 -- nothing is due exactly if no condition holds
 pub none-applies : (l : List Test) → due l ≡ none → noneApplies l ≡ true
 unfolding all
