@@ -9,4 +9,5 @@ pub mod Filling
 pub mod Tests
 pub mod Tabulated
 pub mod Listing
+pub mod Searches
 pub mod Zips

@@ -1,4 +1,4 @@
-// Lists, finite sums and lent buffers, with their laws; and numbers in a wider or narrower type.
+// Lists, finite sums, searches and lent buffers, with their laws; and numbers in a wider or narrower type.
 ghost use Rattle.base.specs.Widths.{Widened};
 
 pub mod convert;

@@ -1,0 +1,3 @@
+pub mod Multiple
+pub mod Divisor
+pub mod Examples
