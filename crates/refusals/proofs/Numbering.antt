@@ -2,7 +2,7 @@
 use Prim.Native.Nat.{_<_}
 use native.Mathlib.Omega.{arith}
 use Rattle.refusals.specs.declared.Refusal.{Refusal}
-use Rattle.refusals.specs.declared.Refusal.the-variants.{Size, Denominator, CellCount, LargeCell, Layout, Content, Buffer, Number, Record, Taken}
+use Rattle.refusals.specs.declared.Refusal.the-variants.{Size, Denominator, CellCount, LargeCell, Layout, Content, Buffer, Number, Record, Taken, Multiple, PooledCell}
 use Rattle.refusals.specs.Numbers.{numberOf}
 
 pub number-small : (x : Refusal) → numberOf x < 30
@@ -16,3 +16,5 @@ number-small Buffer = omega arith
 number-small Number = omega arith
 number-small Record = omega arith
 number-small Taken = omega arith
+number-small Multiple = omega arith
+number-small PooledCell = omega arith

@@ -1,3 +1,5 @@
 pub mod Numbers
+pub mod Places
 pub mod Due
 pub mod Answer
+pub mod Either

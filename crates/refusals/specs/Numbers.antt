@@ -1,7 +1,7 @@
 -- Refusals and their numbers (specification, "Refusals"). Assumes nothing.
 use Prim.Native.Nat.{ℕ}
 use Rattle.refusals.specs.declared.Refusal.{Refusal}
-use Rattle.refusals.specs.declared.Refusal.the-variants.{Size, Denominator, CellCount, LargeCell, Layout, Content, Buffer, Number, Record, Taken}
+use Rattle.refusals.specs.declared.Refusal.the-variants.{Size, Denominator, CellCount, LargeCell, Layout, Content, Buffer, Number, Record, Taken, Multiple, PooledCell}
 
 -- the number of each refusal
 abbrev pub numberOf : Refusal → ℕ
@@ -15,3 +15,5 @@ numberOf Buffer = 7
 numberOf Number = 8
 numberOf Record = 9
 numberOf Taken = 10
+numberOf Multiple = 11
+numberOf PooledCell = 12

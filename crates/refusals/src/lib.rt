@@ -6,6 +6,7 @@ ghost use mathlib.Core.Option.{some, none};
 ghost use Rattle.refusals.specs.Numbers.{numberOf};
 ghost use Rattle.refusals.specs.Answer.{answerNumber};
 ghost use Rattle.refusals.specs.Due.{Test, due, noneApplies, FirstDue};
+ghost use Rattle.refusals.specs.Either.{lowerOf};
 
 // Why a call refuses its input, in the order of the refusals' numbers.
 pub enum Refusal {
@@ -29,6 +30,10 @@ pub enum Refusal {
     Record,
     // the number is taken
     Taken,
+    // the least common multiple of two denominators above 65,535
+    Multiple,
+    // a pooled cell above 1000 times the pooled denominator
+    PooledCell,
 }
 
 // What a call answers that returns nothing but its success.
@@ -52,7 +57,16 @@ pub fn number(r: Refusal) -> u32
         Refusal::Number => 8,
         Refusal::Record => 9,
         Refusal::Taken => 10,
+        Refusal::Multiple => 11,
+        Refusal::PooledCell => 12,
     }
+}
+
+// Of two refusals the one with the lower number.
+pub fn lower(x: Refusal, y: Refusal) -> Refusal
+    ensures { λ r. ⌜ r ≡ lowerOf x y ⌝ }
+{
+    if number(x) <= number(y) { x } else { y }
 }
 
 // The number of an answer: 0 for done.

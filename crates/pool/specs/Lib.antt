@@ -1,0 +1,4 @@
+pub mod Pool
+pub mod Promises
+pub mod Parts
+pub mod Examples
