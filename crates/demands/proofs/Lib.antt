@@ -6,4 +6,5 @@ pub mod Campaigns
 pub mod Belongings
 pub mod Sentences
 pub mod Serving
+pub mod Pooled
 pub mod Examples

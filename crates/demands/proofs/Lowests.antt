@@ -1,7 +1,7 @@
 -- Where the ranks of a call's list never fall, the refusal that is due is the lowest that applies. Assumes nothing.
 use mathlib.Core.Path.{_≡_, refl, sym, ap, ap₂, _∙_, subst}
 use mathlib.Core.Bool.{Bool, true, false, _&&_}
-use mathlib.Core.List.{List, [], _∷_, List·Memᴰ as Member, List·Memᴰ·head as here, List·Memᴰ·tail as there}
+use mathlib.Core.List.{List, [], _∷_, zipWith, List·Memᴰ as Member, List·Memᴰ·head as here, List·Memᴰ·tail as there}
 use mathlib.Core.Option.{some}
 use Prim.Native.Nat.{ℕ, _≤_}
 use native.Mathlib.Nat.{le-refl}
@@ -11,6 +11,7 @@ use borrow.Author.Tests.{leb-true}
 use Rattle.base.specs.Lists.{all}
 use Rattle.base.proofs.Lists.{and-left, and-right, all-at-member}
 use Rattle.refusals.specs.Numbers.{numberOf}
+use Rattle.refusals.specs.Places.{placeOf}
 use Rattle.refusals.specs.declared.Refusal.{Refusal}
 use Rattle.refusals.specs.Due.{Test, refuse, due}
 use Rattle.refusals.proofs.Dues.{due-here, due-next, none-applies}
@@ -19,6 +20,7 @@ use Rattle.plan.specs.Call.{planRefusal}
 use Rattle.opening.specs.Open.{openRefusal, drawRefusal}
 use Rattle.parts.specs.Parts.{partRefusal}
 use Rattle.campaign.specs.Record.{startRefusal, campaignRefusal}
+use Rattle.pool.specs.Pool.{poolRefusal}
 use Rattle.demands.specs.Refusals.{Lowest, Refuses, EachRefuses}
 
 module _ (rank : Refusal → ℕ) where
@@ -69,7 +71,7 @@ module _ (rank : Refusal → ℕ) where
   refuses l up = record { refused = lowest l up; accepted = none-applies l }
 
 pub each-refuses : EachRefuses
-unfolding rising all roundRefusal planRefusal openRefusal partRefusal drawRefusal startRefusal campaignRefusal
+unfolding rising all zipWith roundRefusal planRefusal openRefusal partRefusal drawRefusal startRefusal campaignRefusal poolRefusal
 each-refuses = record {
   rounding = λ r c d g room. refuses numberOf _ refl;
   plan = λ r c d g room. refuses numberOf _ refl;
@@ -78,4 +80,5 @@ each-refuses = record {
   draw = λ b d room. refuses numberOf _ refl;
   start = λ b s. refuses numberOf _ refl;
   campaign-draw = λ b d s room. refuses numberOf _ refl;
+  pool = λ r c d g e h numbers room. refuses placeOf _ refl;
 }

@@ -3,6 +3,7 @@ pub mod Opening
 pub mod Runs
 pub mod Claim
 pub mod Plans
+pub mod Pools
 pub mod Numbers
 pub mod Examples
 pub mod Campaigns

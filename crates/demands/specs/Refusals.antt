@@ -5,12 +5,14 @@ use mathlib.Core.List.{List, List·Memᴰ as Member}
 use mathlib.Core.Option.{Option, some, none}
 use Prim.Native.Nat.{ℕ, _≤_}
 use Rattle.refusals.specs.Numbers.{numberOf}
+use Rattle.refusals.specs.Places.{placeOf}
 use Rattle.refusals.specs.declared.Refusal.{Refusal}
 use Rattle.refusals.specs.Due.{Test, refuse, noneApplies}
 use Rattle.rounding.specs.Call.{roundTests, roundRefusal}
 use Rattle.plan.specs.Call.{planTests, planRefusal}
 use Rattle.opening.specs.Open.{openTests, openRefusal, drawTests, drawRefusal}
 use Rattle.parts.specs.Parts.{partTests, partRefusal}
+use Rattle.pool.specs.Pool.{poolTests, poolRefusal}
 use Rattle.campaign.specs.Record.{CampaignRecord, startTests, startRefusal, campaignTests, campaignRefusal}
 
 -- of the conditions of a list, that of x holds, and no condition whose refusal ranks lower does
@@ -33,3 +35,6 @@ pub record EachRefuses : Type 0 where
   pub draw : (b : List ℕ) (d room : ℕ) → Refuses numberOf (drawTests b d room) (drawRefusal b d room)
   pub start : (b : List ℕ) (s : CampaignRecord) → Refuses numberOf (startTests b s) (startRefusal b s)
   pub campaign-draw : (b : List ℕ) (d : ℕ) (s : CampaignRecord) (room : ℕ) → Refuses numberOf (campaignTests b d s room) (campaignRefusal b d s room)
+  -- pooling has refusals that came later, so the lowest place: 11 and 12 before 7
+  pub pool : (r c d : ℕ) (g : List ℕ) (e : ℕ) (h : List ℕ) (numbers room : ℕ)
+      → Refuses placeOf (poolTests r c d g e h numbers room) (poolRefusal r c d g e h numbers room)

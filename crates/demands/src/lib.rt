@@ -5,13 +5,16 @@
 // refusal each call returns; that a refusal leaves every lent buffer as it was is in each call's contract (`after`).
 // Demand 2, that every plan is the specification's: `plans`; that the call writes just this plan is the contract of `plan::plan`. A stored plan opens just if it meets the stated conditions: `opens`.
 // Demand 3, on campaigns: `every_run`, for any plan that opens; and `serves`, for the plan of every accepted table.
+// Pooling, which came later: `pools`.
 ghost use mathlib.Core.Path.{_≡_};
 ghost use mathlib.Core.Bool.{true};
 ghost use mathlib.Core.List.{List, map};
 ghost use mathlib.Core.Option.{none};
-ghost use Prim.Native.Nat.{ℕ, _<_, _≤_};
+ghost use Prim.Native.Nat.{ℕ, _*_, _<_, _≤_};
 ghost use lib.ListN.{length};
 ghost use Rattle.base.specs.Lists.{sum};
+ghost use Rattle.refusals.specs.declared.Answer.{Answer};
+ghost use Rattle.refusals.specs.Due.{Answers};
 ghost use Rattle.table.specs.Table.{maxRows, maxColumns, maxEntries, entryPlaces};
 ghost use Rattle.table.specs.Whole.{down, whole};
 ghost use Rattle.table.specs.Check.{tableRefusal};
@@ -21,17 +24,19 @@ ghost use Rattle.plan.specs.Rounds.{limitOf};
 ghost use Rattle.plan.specs.declared.Planned.{Planned};
 ghost use Rattle.plan.specs.Call.{planBytes, PlanAnswers};
 ghost use Rattle.plan.specs.Promises.{Promises};
+ghost use Rattle.pool.specs.Pool.{poolingRefusal, poolRefusal, Lent, pooledInto};
 ghost use Rattle.demands.specs.Refusals.{EachRefuses};
 ghost use Rattle.demands.specs.Opening.{Conditions};
 ghost use Rattle.demands.specs.Claim.{Claim};
 ghost use Rattle.demands.specs.Plans.{Served};
+ghost use Rattle.demands.specs.Pools.{ServedPool};
 ghost use Rattle.demands.specs.Numbers.{Belonging};
 ghost use Rattle.demands.specs.Examples.{ExamplesHold};
 ghost use Rattle.demands.specs.Campaigns.{runs, saidOf};
 ghost use Rattle.demands.specs.Slips.{SlipsShut};
 
 pub fn claims()
-    // every call returns the lowest refusal that applies
+    // every call returns the lowest refusal that applies, and pooling the first in its order
     ensures refusals { λ _. ⌜ EachRefuses ⌝ }
     // what the plan of every accepted table keeps
     ensures plans { λ _. ⌜ ((r c d : ℕ) (g : List ℕ) → tableRefusal r c d g ≡ none → Promises r c d g) ⌝ }
@@ -42,6 +47,11 @@ pub fn claims()
     // and on what the call "plan" gives for every accepted table, in a buffer with room
     ensures serves { λ _. ⌜ ((r c d : ℕ) (g old new : List ℕ) (p : Planned) → tableRefusal r c d g ≡ none → length (planBytes r c d g) ≤ length old
         → PlanAnswers r c d g old p new → Served r c d g p new) ⌝ }
+    // two tables that are pooled into buffers with room, and the pool then planned
+    ensures pools { λ _. ⌜ ((r c d : ℕ) (g : List ℕ) (e : ℕ) (h : List ℕ) (old new : Lent) (a : Answer) → poolingRefusal r c d g e h ≡ none
+        → 1 ≤ length (old .denominator) → r * c ≤ length (old .cells)
+        → Answers (poolRefusal r c d g e h (length (old .denominator)) (length (old .cells))) (pooledInto d g e h old) old a new
+        → ServedPool r c d g e h a new) ⌝ }
     // sentences of the specification that follow from its definitions: the number of entries, a whole entry's limit, the array of a draw number
     ensures entries { λ _. ⌜ ((r c : ℕ) → r ≤ maxRows → c ≤ maxColumns → length (entryPlaces r c) ≤ maxEntries) ⌝ }
     ensures whole_limit { λ _. ⌜ ((w e : ℕ) → whole w e ≡ true → limitOf w e (down w e) ≡ w) ⌝ }

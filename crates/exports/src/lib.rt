@@ -11,6 +11,7 @@ ghost use Rattle.form.specs.Plan.{cellCount};
 ghost use Rattle.form.specs.Form.{decode};
 ghost use Rattle.opening.specs.Open.{openAnswer, openedNumber, drawRefusal, drawnArray};
 ghost use Rattle.parts.specs.Parts.{sizeNumbers, partRefusal};
+ghost use Rattle.pool.specs.Pool.{poolRefusal, lent, pooledInto};
 ghost use Rattle.campaign.specs.Record.{recordOf};
 ghost use Rattle.campaign.specs.Calls.{started, ask, made, Starts, Draws};
 
@@ -53,6 +54,29 @@ pub extern "C" fn lufodimi_plan(
 {
     let planned = plan::plan(rows, columns, denominator, cells, buffer);
     plan::planned_number(planned)
+}
+
+// Writes the pool of two tables, the first over d and the second over e: 0, or the refusal's number.
+#[no_mangle]
+pub extern "C" fn lufodimi_pool(
+    rows: u32,
+    columns: u32,
+    d: u32,
+    first: &[u32],
+    e: u32,
+    second: &[u32],
+    denominator: &mut [u32],
+    cells: &mut [u32],
+) -> u32
+    ensures number { λ n. ⌜ n ≡ answerNumber (answerOf (poolRefusal rows columns d (now (first .entry)) e (now (second .entry))
+        (length (now (denominator .entry))) (length (now (cells .entry))))) ⌝ }
+    ensures buffers { λ _. ⌜ lent (now (denominator .exit)) (now (cells .exit)) ≡ after (poolRefusal rows columns d (now (first .entry)) e (now (second .entry))
+        (length (now (denominator .entry))) (length (now (cells .entry))))
+        (pooledInto d (now (first .entry)) e (now (second .entry)) (lent (now (denominator .entry)) (now (cells .entry))))
+        (lent (now (denominator .entry)) (now (cells .entry))) ⌝ }
+{
+    let pooled = pool::pool(rows, columns, d, first, e, second, denominator, cells);
+    refusals::answer_number(pooled)
 }
 
 // Opens a stored plan: 0, or the refusal's number.

@@ -5,6 +5,7 @@ use Rattle.demands.proofs.Lowests.{each-refuses}
 use Rattle.demands.proofs.Conditions.{opens-just}
 use Rattle.demands.proofs.Campaigns.{claim}
 use Rattle.demands.proofs.Serving.{served}
+use Rattle.demands.proofs.Pooled.{served-pool}
 use Rattle.demands.proofs.Sentences.{few-entries, whole-limit}
 use Rattle.demands.proofs.Belongings.{belonging}
 use Rattle.demands.proofs.Examples.{examples-hold, runs-hold, slips-shut}
@@ -22,7 +23,7 @@ returns k = (
         claim,
         (
           served,
-          (few-entries, (whole-limit, (belonging, (examples-hold, (runs-hold, slips-shut))))),
+          (served-pool, (few-entries, (whole-limit, (belonging, (examples-hold, (runs-hold, slips-shut)))))),
         ),
       ),
     ),
