@@ -1,12 +1,12 @@
-/* Controlled selection: roundings, plans, draws and campaigns. For x86-64 and the C ABI of its systems.
+/* Controlled selection: roundings, pooled tables, plans, draws and campaigns. For x86-64 and the C ABI of its systems.
  *
  * A table has rows and columns of cells, whole numbers in row order, over one denominator: a cell over the denominator is the count
  * expected there. A plan is a list of whole-number arrays, one count a cell, with weights that add up to the denominator. Draw numbers
  * run from 0 to the denominator minus 1, and each belongs to one array. The chances of a plan hold only if the draw number is drawn
  * evenly at random, in a campaign evenly among the numbers that are not taken yet; the caller makes the random numbers.
  *
- * Every call checks what it is lent. It returns LUFODIMI_DONE, and lufodimi_plan the plan's length, or the number of the lowest refusal
- * that applies. A refusal changes no buffer.
+ * Every call checks what it is lent. It returns LUFODIMI_DONE, and lufodimi_plan the plan's length, or the number of the first refusal
+ * that applies, in the order of their numbers, but 11 and 12 before 7. A refusal changes no buffer.
  *
  * What a call is lent:
  * - A length counts elements, not bytes. A pointer is never null, not even with length 0, and is aligned for its elements.
@@ -58,7 +58,9 @@ enum lufodimi_answer {
     LUFODIMI_BUFFER = 7,      /* a lent buffer shorter than its result or record */
     LUFODIMI_NUMBER = 8,      /* draw number not below the denominator */
     LUFODIMI_RECORD = 9,      /* the record does not fit the plan */
-    LUFODIMI_TAKEN = 10       /* the number is taken */
+    LUFODIMI_TAKEN = 10,      /* the number is taken */
+    LUFODIMI_MULTIPLE = 11,   /* the least common multiple of the two denominators is above 65,535 */
+    LUFODIMI_POOLED_CELL = 12 /* a pooled cell is above 1000 times the multiple */
 };
 
 /* The part of a campaign record that is no buffer: how many numbers are taken. */
@@ -70,6 +72,14 @@ struct lufodimi_record {
 uint32_t lufodimi_round(uint32_t rows, uint32_t columns, uint32_t denominator,
                         const uint32_t *cells, size_t cells_length,
                         uint16_t *counts, size_t counts_length);
+
+/* Pools two tables of the same rows and columns: writes the least common multiple of their denominators, one number, and the cells over
+ * it, rows times columns numbers, in row order, each exactly the sum of the two expected counts. Refusals 1, 2, 3, 4, 11, 12, 7, in this
+ * order; 2, 3 and 4 apply if they apply to either table. */
+uint32_t lufodimi_pool(uint32_t rows, uint32_t columns,
+                       uint32_t first_denominator, const uint32_t *first, size_t first_length,
+                       uint32_t second_denominator, const uint32_t *second, size_t second_length,
+                       uint32_t *denominator, size_t denominator_length, uint32_t *cells, size_t cells_length);
 
 /* Writes the stored plan of a table and returns its length, LUFODIMI_SHORTEST_PLAN or more; a lower number is a refusal: 1, 2, 3, 4, 7.
  * A buffer of LUFODIMI_LONGEST_PLAN bytes is enough for every table, and one of just the plan's length for this one. */

@@ -38,11 +38,13 @@ SENTENCES = {
     8: "The draw number is not below the denominator.",
     9: "The record does not fit the plan.",
     10: "The number is taken.",
+    11: "The least common multiple of the two denominators is above 65,535.",
+    12: "A pooled cell is above 1000 times the multiple.",
 }
 
 
 class Refusal(Exception):
-    """Why a call turned its input back: its `number`, from 1 to 10 (7 cannot occur here), and as text its sentence."""
+    """Why a call turned its input back: its `number`, from 1 to 12 (7 cannot occur here), and as text its sentence."""
 
     def __init__(self, number: int):
         super().__init__(SENTENCES[number])
@@ -61,6 +63,7 @@ except OSError as error:
 _words, _counts, _plan = [POINTER(c_uint32), c_size_t], [POINTER(c_uint16), c_size_t], [c_char_p, c_size_t]
 _table, _record = [c_uint32] * 3 + _words, [POINTER(c_uint32), POINTER(c_uint8), c_size_t] + _words
 _library.lufodimi_round.argtypes = _table + _counts
+_library.lufodimi_pool.argtypes = _table + [c_uint32] + _words * 3
 _library.lufodimi_plan.argtypes = _table + _plan
 _library.lufodimi_sizes.argtypes = _plan + _words
 _library.lufodimi_cells.argtypes = _plan + _words
@@ -93,6 +96,17 @@ def round_table(rows: int, columns: int, denominator: int, cells: Iterable[int])
     counts = (c_uint16 * MOST_CELLS)()
     _call("round", *_lent_table(rows, columns, denominator, cells), counts, MOST_CELLS)
     return counts[: rows * columns]
+
+
+def pool(
+    rows: int, columns: int, denominator: int, cells: Iterable[int], other_denominator: int, other_cells: Iterable[int]
+) -> tuple[int, list[int]]:
+    """Two tables of the same rows and columns as one: the least common multiple of their denominators, and cells that are exactly the sums of the two
+    expected counts, to be passed on as in `plan(rows, columns, *pool(...))`. Refusals 1, 2, 3, 4, 11, 12; 2, 3 and 4 if they apply to either table."""
+    multiple, pooled = (c_uint32 * 1)(), (c_uint32 * MOST_CELLS)()
+    first, second = _lent_table(rows, columns, denominator, cells), _lent_table(rows, columns, other_denominator, other_cells)
+    _call("pool", *first, *second[2:], multiple, 1, pooled, MOST_CELLS)
+    return multiple[0], pooled[: rows * columns]
 
 
 def plan(rows: int, columns: int, denominator: int, cells: Iterable[int]) -> bytes:

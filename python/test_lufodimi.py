@@ -11,6 +11,10 @@ import lufodimi
 # The specification's listing: draws 0 and 1, 2, 3 to 6, 7 to 9.
 CELLS = [3, 4, 5, 6]
 ARRAYS = [[0, 0, 0, 1]] * 2 + [[0, 0, 1, 1]] + [[0, 1, 1, 0]] * 4 + [[1, 0, 0, 1]] * 3
+# A standing table of three shelf zones by four kinds over 10, a week's recall list over 4, and both pooled over 20.
+STANDING = [45, 23, 0, 12, 31, 26, 4, 19, 0, 14, 52, 14]
+LIST = [0, 0, 0, 0, 0, 0, 0, 3, 0, 2, 0, 0]
+POOLED = [90, 46, 0, 24, 62, 52, 8, 53, 0, 38, 104, 28]
 
 
 def campaign(record=None):
@@ -28,6 +32,19 @@ class Tests(unittest.TestCase):
         self.assertEqual(lufodimi.round_table(2, 2, 2, [1, 1, 1, 1]), [0, 1, 1, 0])
         self.assertEqual(lufodimi.round_table(1, 2, 4, (4, 6)), [1, 1])
         self.assertEqual(lufodimi.round_table(12, 12, 1, range(144)), list(range(144)))
+
+    def test_pooling(self):
+        self.assertEqual(lufodimi.pool(3, 4, 10, STANDING, 4, LIST), (20, POOLED))
+        self.assertEqual(lufodimi.pool(3, 4, 4, iter(LIST), 10, tuple(STANDING)), (20, POOLED))
+        self.assertEqual(lufodimi.pool(3, 4, 10, STANDING, 10, [0] * 12), (10, STANDING))
+        self.assertEqual(lufodimi.pool(1, 1, 255, [1], 257, [2]), (65_535, [767]))
+        self.assertEqual(lufodimi.pool(12, 12, 2, range(144), 3, range(144)), (6, [5 * cell for cell in range(144)]))
+
+    def test_pooled_plan(self):
+        plan = lufodimi.Plan(lufodimi.plan(3, 4, *lufodimi.pool(3, 4, 10, STANDING, 4, LIST)))
+        self.assertEqual((plan.rows, plan.columns, plan.arrays, plan.denominator, plan.cells), (3, 4, 6, 20, POOLED))
+        draws = [plan.draw(number) for number in range(20)]
+        self.assertEqual([sum(counts) for counts in zip(*draws)], POOLED)
 
     def test_plan(self):
         stored = lufodimi.plan(2, 2, 10, CELLS)
@@ -56,6 +73,26 @@ class Tests(unittest.TestCase):
             self.refused(3, call, 2, 2, 10, CELLS + [7])
             self.refused(4, call, 2, 2, 10, [3, 4, 5, 10_001])
             self.refused(4, call, 2, 2, 10, [2**32 - 1, 4, 5, 6])
+
+    def refused_pool(self, number, rows, columns, table, other):
+        self.refused(number, lufodimi.pool, rows, columns, *table, *other)
+        self.refused(number, lufodimi.pool, rows, columns, *other, *table)
+
+    def test_refusals_of_pooling(self):
+        good = (10, CELLS)
+        self.refused_pool(1, 0, 2, good, good)
+        self.refused_pool(1, 2, 13, good, (0, []))
+        self.refused_pool(1, 2**32 - 1, 2**32 - 1, good, good)
+        self.refused_pool(2, 2, 2, good, (0, CELLS))
+        self.refused_pool(2, 2, 2, good, (65_536, []))
+        self.refused_pool(3, 2, 2, good, (10, []))
+        self.refused_pool(3, 2, 2, (10, [3, 4, 5, 10_001]), (10, CELLS + [7]))
+        self.refused_pool(4, 2, 2, good, (7, [0, 0, 0, 7_001]))
+        self.refused_pool(4, 2, 2, (9, [0] * 4), (65_535, [2**32 - 1, 4, 5, 6]))
+        self.refused_pool(11, 1, 1, (2, [1]), (32_769, [1]))
+        self.refused_pool(11, 1, 1, (65_534, [65_534_000]), (65_535, [65_535_000]))
+        self.refused_pool(12, 1, 1, (10, [8_998]), (4, [401]))
+        self.refused_pool(12, 2, 2, good, (4, [0, 0, 4_000, 0]))
 
     def test_refusals_of_a_plan(self):
         stored = lufodimi.plan(2, 2, 10, CELLS)
@@ -148,6 +185,12 @@ class Tests(unittest.TestCase):
                 self.assertRaises(OverflowError, call, 2, word, 10, CELLS)
                 self.assertRaises(OverflowError, call, 2, 2, word, CELLS)
                 self.assertRaises(OverflowError, call, 2, 2, 10, [3, 4, word, 6])
+            self.assertRaises(OverflowError, lufodimi.pool, word, 2, 10, CELLS, 10, CELLS)
+            self.assertRaises(OverflowError, lufodimi.pool, 2, word, 10, CELLS, 10, CELLS)
+            self.assertRaises(OverflowError, lufodimi.pool, 2, 2, word, CELLS, 10, CELLS)
+            self.assertRaises(OverflowError, lufodimi.pool, 2, 2, 10, [3, 4, word, 6], 10, CELLS)
+            self.assertRaises(OverflowError, lufodimi.pool, 2, 2, 10, CELLS, word, CELLS)
+            self.assertRaises(OverflowError, lufodimi.pool, 2, 2, 10, CELLS, 10, [3, 4, word, 6])
             self.assertRaises(OverflowError, plan.draw, word)
             self.assertRaises(OverflowError, run.draw, word)
         self.assertEqual(run.free, list(range(10)))
@@ -155,6 +198,7 @@ class Tests(unittest.TestCase):
     def test_other_types(self):
         self.assertRaises(TypeError, lufodimi.plan, 2, 2, 10.0, CELLS)
         self.assertRaises(TypeError, lufodimi.plan, 2, 2, 10, [3, 4, 5, "6"])
+        self.assertRaises(TypeError, lufodimi.pool, 2, 2, 10, CELLS, 10.0, CELLS)
         self.assertRaises(TypeError, lufodimi.Plan, 96)
         self.assertRaises(TypeError, lufodimi.Plan, None)
         self.assertRaises(TypeError, campaign, 23)

@@ -8,6 +8,7 @@ mod draw;
 mod open;
 mod parts;
 mod plan;
+mod pool;
 mod print;
 mod round;
 
@@ -19,6 +20,7 @@ use tables::Generator;
 /// The kinds of cases and the named cases of each call.
 const CALLS: &[(&[Kind], &[Named])] = &[
     (round::KINDS, round::NAMED),
+    (pool::KINDS, pool::NAMED),
     (plan::KINDS, plan::NAMED),
     (open::KINDS, open::NAMED),
     (parts::KINDS, parts::NAMED),

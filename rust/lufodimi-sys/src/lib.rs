@@ -2,9 +2,9 @@
 //!
 //! The functions named `lufodimi_` are the C calls as `include/lufodimi.h` declares them.
 //! Beside each stands a safe function that lends slices with their lengths and hands on
-//! what the call returns: 0, and of planning the plan's length, or the number of the
-//! lowest refusal that applies. A refusal changes no buffer. The crate `lufodimi` makes
-//! types of all this.
+//! what the call returns: 0, and of planning the plan's length, or the number of the first
+//! refusal that applies, in the order of their numbers, but 11 and 12 before 7. A refusal
+//! changes no buffer. The crate `lufodimi` makes types of all this.
 //!
 //! Build the library once with `rt staticlib exports` in the repository. The variable
 //! `LUFODIMI_LIB_DIR` names another folder than the repository's own `target/staticlib`.
@@ -36,6 +36,7 @@ mod draw;
 mod open;
 mod parts;
 mod plan;
+mod pool;
 mod round;
 
 pub use campaign::{campaign_draw, lufodimi_campaign_draw, lufodimi_record, lufodimi_start, start};
@@ -43,4 +44,5 @@ pub use draw::{draw, lufodimi_draw};
 pub use open::{lufodimi_open, open};
 pub use parts::{cells, lufodimi_cells, lufodimi_sizes, sizes};
 pub use plan::{lufodimi_plan, plan, LUFODIMI_LONGEST_PLAN};
+pub use pool::{lufodimi_pool, pool};
 pub use round::{lufodimi_round, round};

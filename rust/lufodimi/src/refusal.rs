@@ -1,8 +1,8 @@
 use core::error::Error;
 use core::fmt::{self, Debug, Display, Formatter};
 
-/// Why something was refused. A refusal changes nothing; of several that apply, the one
-/// with the lowest number is returned.
+/// Why something was refused. A refusal changes nothing; of several that apply, the first
+/// is returned, in the order of their numbers, but 11 and 12 before 7.
 ///
 /// It displays as a sentence without its end, and `Debug`, which the `?` of `main`
 /// prints, adds the number.
@@ -18,7 +18,7 @@ use core::fmt::{self, Debug, Display, Formatter};
 #[derive(Clone, Copy, PartialEq, Eq, Hash)]
 #[non_exhaustive]
 pub enum Refusal {
-    /// Rows or columns not from 1 to 12.
+    /// Rows or columns not from 1 to 12, or not the same in two tables to be pooled.
     Size = 1,
     /// The denominator not from 1 to 65,535.
     Denominator = 2,
@@ -40,10 +40,14 @@ pub enum Refusal {
     Record = 9,
     /// A draw number that is taken.
     Taken = 10,
+    /// The least common multiple of the two denominators above 65,535.
+    Multiple = 11,
+    /// A pooled cell above 1000 times the multiple.
+    PooledCell = 12,
 }
 
 /// The refusals in the order of their numbers.
-const REFUSALS: [Refusal; 10] = [
+const REFUSALS: [Refusal; 12] = [
     Refusal::Size,
     Refusal::Denominator,
     Refusal::CellCount,
@@ -54,6 +58,8 @@ const REFUSALS: [Refusal; 10] = [
     Refusal::Number,
     Refusal::Record,
     Refusal::Taken,
+    Refusal::Multiple,
+    Refusal::PooledCell,
 ];
 
 impl Refusal {
@@ -83,7 +89,9 @@ pub(crate) fn accepted(answer: u32) -> Result<(), Refusal> {
 impl Display for Refusal {
     fn fmt(&self, formatter: &mut Formatter) -> fmt::Result {
         formatter.write_str(match self {
-            Refusal::Size => "rows or columns are not from 1 to 12",
+            Refusal::Size => {
+                "rows or columns are not from 1 to 12, or differ between pooled tables"
+            }
             Refusal::Denominator => "the denominator is not from 1 to 65,535",
             Refusal::CellCount => "the cells are not as many as rows times columns",
             Refusal::LargeCell => "a cell is above 1000 times the denominator",
@@ -93,6 +101,10 @@ impl Display for Refusal {
             Refusal::Number => "the draw number is not below the denominator",
             Refusal::Record => "the record does not fit the plan",
             Refusal::Taken => "the number is taken",
+            Refusal::Multiple => {
+                "the least common multiple of the two denominators is above 65,535"
+            }
+            Refusal::PooledCell => "a pooled cell is above 1000 times the multiple",
         })
     }
 }
@@ -113,7 +125,7 @@ mod tests {
 
     #[test]
     fn every_number_has_its_refusal_and_a_sentence() {
-        for number in 1..=10 {
+        for number in 1..=12 {
             let refusal = Refusal::of(number);
             assert_eq!(refusal.number(), number);
             let sentence = refusal.to_string();

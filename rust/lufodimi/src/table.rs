@@ -151,6 +151,51 @@ impl Table {
         counts
     }
 
+    /// The pooled table of this one and another of the same rows and columns. Its
+    /// denominator is the least common multiple of the two, and each of its expected
+    /// counts is exactly the sum of theirs.
+    ///
+    /// ```
+    /// use lufodimi::{Refusal, Table};
+    ///
+    /// let standing = Table::new(1, 2, 10, [3, 4])?;
+    /// let list = Table::new(1, 2, 4, [1, 2])?;
+    /// assert_eq!(standing.pool(&list), Table::new(1, 2, 20, [11, 18]));
+    ///
+    /// let other_size = Table::new(2, 1, 4, [1, 2])?;
+    /// assert_eq!(standing.pool(&other_size), Err(Refusal::Size));
+    /// # Ok::<(), Refusal>(())
+    /// ```
+    ///
+    /// # Errors
+    ///
+    /// [`Refusal::Size`] if rows or columns are not the same in both, which is found out
+    /// before the library is asked, since a call has one size for both;
+    /// [`Refusal::Multiple`] if the least common multiple is above 65,535, and
+    /// [`Refusal::PooledCell`] if a pooled cell is above 1000 times the multiple.
+    pub fn pool(&self, other: &Table) -> Result<Table, Refusal> {
+        if (self.rows, self.columns) != (other.rows, other.columns) {
+            return Err(Refusal::Size);
+        }
+        let (mut denominator, mut cells) = ([0], vec![0; self.cells.len()]);
+        accepted(lufodimi_sys::pool(
+            self.rows,
+            self.columns,
+            self.denominator,
+            &self.cells,
+            other.denominator,
+            &other.cells,
+            &mut denominator,
+            &mut cells,
+        ))?;
+        // What is pooled without a refusal is within the bounds of a table.
+        Ok(Table {
+            denominator: denominator[0],
+            cells,
+            ..*self
+        })
+    }
+
     /// Writes the first controlled rounding.
     fn rounded(&self, counts: &mut [u16]) -> Result<(), Refusal> {
         accepted(lufodimi_sys::round(

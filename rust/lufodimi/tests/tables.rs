@@ -1,4 +1,4 @@
-//! Tables: what is accepted, every refusal, and the first controlled rounding.
+//! Tables: what is accepted, every refusal, the first controlled rounding, and pooling.
 
 use lufodimi::{Plan, Refusal, Table};
 
@@ -58,4 +58,89 @@ fn the_rounding_is_the_array_of_number_0() {
         let table = Table::new(2, 2, 10, cells).expect("accepted");
         assert_eq!(Plan::of(&table).draw(0), Ok(table.round()));
     }
+}
+
+/// A table that must be accepted.
+fn table(rows: u32, columns: u32, denominator: u32, cells: &[u32]) -> Table {
+    Table::new(rows, columns, denominator, cells).expect("accepted")
+}
+
+/// A standing table of three shelf zones by four kinds, a week's recall list, and both
+/// pooled.
+fn recall() -> [Table; 3] {
+    let standing = [45, 23, 0, 12, 31, 26, 4, 19, 0, 14, 52, 14];
+    let list = [0, 0, 0, 0, 0, 0, 0, 3, 0, 2, 0, 0];
+    let pooled = [90, 46, 0, 24, 62, 52, 8, 53, 0, 38, 104, 28];
+    [
+        table(3, 4, 10, &standing),
+        table(3, 4, 4, &list),
+        table(3, 4, 20, &pooled),
+    ]
+}
+
+#[test]
+fn a_recall_list_is_pooled_with_the_standing_table() {
+    let [standing, list, pooled] = recall();
+    assert_eq!(standing.pool(&list).as_ref(), Ok(&pooled));
+    assert_eq!(list.pool(&standing), Ok(pooled));
+}
+
+#[test]
+fn tables_of_different_sizes_are_not_pooled() {
+    let wide = table(2, 3, 10, &[1; 6]);
+    for (rows, columns) in [(3, 2), (2, 2), (1, 3), (6, 1), (12, 12)] {
+        let cells = vec![1; (rows * columns) as usize];
+        let other = table(rows, columns, 10, &cells);
+        assert_eq!(wide.pool(&other), Err(Refusal::Size));
+        assert_eq!(other.pool(&wide), Err(Refusal::Size));
+    }
+    // the size comes before the multiple
+    let over_another = table(3, 2, 65_521, &[1; 6]);
+    assert_eq!(wide.pool(&over_another), Err(Refusal::Size));
+}
+
+#[test]
+fn the_multiple_is_at_most_the_largest_denominator() {
+    let pooled = |one, other| table(1, 1, one, &[1]).pool(&table(1, 1, other, &[1]));
+    assert_eq!(pooled(255, 257), Ok(table(1, 1, 65_535, &[512])));
+    assert_eq!(pooled(256, 257), Err(Refusal::Multiple));
+    assert_eq!(pooled(2, 32_769), Err(Refusal::Multiple));
+    assert_eq!(pooled(65_534, 65_535), Err(Refusal::Multiple));
+}
+
+#[test]
+fn a_pooled_cell_is_at_most_the_largest_count() {
+    let pooled = |one, other| table(1, 2, 10, &[0, one]).pool(&table(1, 2, 4, &[0, other]));
+    assert_eq!(pooled(9000, 400), Ok(table(1, 2, 20, &[0, 20_000])));
+    assert_eq!(pooled(8998, 401), Err(Refusal::PooledCell));
+    assert_eq!(pooled(10_000, 4000), Err(Refusal::PooledCell));
+}
+
+#[test]
+fn the_multiple_is_refused_before_a_pooled_cell() {
+    let (one, other) = (table(1, 1, 2, &[2000]), table(1, 1, 32_769, &[32_769_000]));
+    assert_eq!(one.pool(&other), Err(Refusal::Multiple));
+}
+
+#[test]
+fn zeros_over_the_same_denominator_give_the_table_back() {
+    let [standing, ..] = recall();
+    let zeros = table(3, 4, 10, &[0; 12]);
+    assert_eq!(standing.pool(&zeros).as_ref(), Ok(&standing));
+    assert_eq!(zeros.pool(&standing), Ok(standing));
+}
+
+#[test]
+fn a_pooled_table_is_planned() {
+    let [standing, list, pooled] = recall();
+    let plan = Plan::of(&standing.pool(&list).expect("pooled"));
+    assert_eq!(plan.table(), &pooled);
+    let mut drawn = [0; 12];
+    for number in 0..plan.denominator() {
+        let counts = plan.draw(number).expect("below the denominator");
+        for (sum, count) in drawn.iter_mut().zip(counts) {
+            *sum += u32::from(count);
+        }
+    }
+    assert_eq!(drawn, pooled.cells());
 }

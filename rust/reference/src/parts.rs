@@ -22,7 +22,7 @@ pub fn cells(bytes: &[u8], cells: &mut [u32]) -> Result<(), Refusal> {
 }
 
 /// Writes numbers at the start of a lent buffer.
-fn write_numbers(numbers: &[u64], buffer: &mut [u32]) -> Result<(), Refusal> {
+pub fn write_numbers(numbers: &[u64], buffer: &mut [u32]) -> Result<(), Refusal> {
     if buffer.len() < numbers.len() {
         return Err(Refusal::ShortBuffer);
     }

@@ -21,6 +21,10 @@ pub enum Refusal {
     Record = 9,
     /// A draw number taken before.
     Taken = 10,
+    /// The least common multiple of two denominators out of bounds.
+    Multiple = 11,
+    /// A pooled cell above 1000 times the multiple.
+    PooledCell = 12,
 }
 
 impl Refusal {

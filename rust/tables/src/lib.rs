@@ -7,7 +7,9 @@ pub mod papers;
 mod random;
 
 pub use numbers::Generator;
-pub use random::{evenly_spread, random_table, random_table_of};
+pub use random::{
+    evenly_spread, random_denominator, random_table, random_table_of, random_table_over,
+};
 
 /// A table as a caller hands it over, whether it is accepted or not.
 #[derive(Clone, Debug, PartialEq, Eq)]
@@ -38,6 +40,23 @@ impl GivenTable {
             cells: vec![cell; (rows * columns) as usize],
         }
     }
+}
+
+/// Two tables of one size as a caller hands them over to be pooled, accepted or not: rows
+/// and columns are given once.
+#[derive(Clone, Debug, PartialEq, Eq)]
+pub struct GivenPair {
+    pub rows: u32,
+    pub columns: u32,
+    pub first: GivenPart,
+    pub second: GivenPart,
+}
+
+/// One of the two tables.
+#[derive(Clone, Debug, PartialEq, Eq)]
+pub struct GivenPart {
+    pub denominator: u32,
+    pub cells: Vec<u32>,
 }
 
 /// Every accepted number of rows with every accepted number of columns.

@@ -19,6 +19,16 @@ pub fn random_table(generator: &mut Generator, largest: u32) -> GivenTable {
 /// An accepted table of this size.
 pub fn random_table_of(generator: &mut Generator, rows: u32, columns: u32) -> GivenTable {
     let denominator = random_denominator(generator);
+    random_table_over(generator, rows, columns, denominator)
+}
+
+/// An accepted table of this size over this denominator.
+pub fn random_table_over(
+    generator: &mut Generator,
+    rows: u32,
+    columns: u32,
+    denominator: u32,
+) -> GivenTable {
     let cells = random_cells(generator, rows, columns, denominator);
     GivenTable {
         rows,
@@ -46,7 +56,8 @@ pub fn evenly_spread(
     }
 }
 
-fn random_denominator(generator: &mut Generator) -> u32 {
+/// An accepted denominator.
+pub fn random_denominator(generator: &mut Generator) -> u32 {
     match generator.below(4) {
         0 => generator.between(1, 65535) as u32,
         1 => generator.between(1, 30) as u32,

@@ -10,6 +10,7 @@ pub mod examples;
 pub mod open;
 pub mod parts;
 pub mod plan;
+pub mod pool;
 pub mod round;
 pub mod runs;
 pub mod stored;

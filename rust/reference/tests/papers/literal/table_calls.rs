@@ -1,10 +1,11 @@
-//! Tables: their check, controlled roundings, the calls "rounding" and "plan", and the
-//! examples of 01.
+//! Tables: their check, controlled roundings, the calls "rounding", "plan" and "pool", and
+//! the examples of 01.
 
 use super::assert_rows;
 use crate::samples::{accepted, planned_arrays, stored_plan};
 use reference::{draw, is_controlled_rounding, number_of, Refusal, Table};
 use tables::literal::examples::{self, Row, Said};
+use tables::literal::pool::{self, Buffers, Pool};
 use tables::literal::{check, plan, round};
 use tables::GivenTable;
 
@@ -59,6 +60,36 @@ fn calls_of_plan() {
         );
         let number = answer.unwrap_or_else(Refusal::number);
         ((number, bytes), (row.number, row.result.clone()))
+    });
+}
+
+/// The number that pooling returns, and the buffers as it leaves them.
+fn pooled(row: &Pool) -> (u32, Buffers) {
+    let (given, mut left) = (&row.given, row.lent.clone());
+    let answer = reference::pool(
+        given.rows,
+        given.columns,
+        given.first.denominator,
+        &given.first.cells,
+        given.second.denominator,
+        &given.second.cells,
+        &mut left.denominator,
+        &mut left.cells,
+    );
+    (number_of(answer), left)
+}
+
+#[test]
+fn calls_of_pool() {
+    assert_rows(&pool::calls(), |row| {
+        (pooled(row), (row.number, row.left.clone()))
+    });
+}
+
+#[test]
+fn a_recall_list_is_pooled() {
+    assert_rows(&[pool::recall()], |row| {
+        (pooled(row), (row.number, row.left.clone()))
     });
 }
 
