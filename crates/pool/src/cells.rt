@@ -10,7 +10,7 @@ use base::convert::u64_to_u32;
 use base::wide;
 use table::Table;
 
-// A pooled cell of a cell of each table.
+// A pooled cell of a cell of each table. A factor is at most 65,535, so it stays below 2^49 whatever the two cells are.
 fn pooled_cell(s: Scale, x: u32, y: u32) -> u64
     requires { ⌜ Factors s ⌝ }
     ensures { λ r. ⌜ r ≡ s .first * x + s .second * y ⌝ }

@@ -31,7 +31,7 @@ pub struct Scale {
     pub second: u64,
 }
 
-// The scale of two accepted tables.
+// The scale of two accepted tables. The multiple is at most 65,535 · 65,535, and a factor at most the other denominator.
 fn scale_of(p: Pair) -> Scale
     requires { ⌜ Denominators (p .first) (p .second) ⌝ }
     ensures { λ s. ⌜ s ≡ scaleOf (p .cells) (p .first) (p .second) ⌝ }

@@ -188,7 +188,8 @@ impl Table {
             &mut denominator,
             &mut cells,
         ))?;
-        // What is pooled without a refusal is within the bounds of a table.
+        // That what is pooled without a refusal is within the bounds of a table is proved
+        // of the library.
         Ok(Table {
             denominator: denominator[0],
             cells,
