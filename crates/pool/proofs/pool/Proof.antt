@@ -6,16 +6,14 @@ use Rattle.pool.proofs.pool.Tie as tie
 writable : tie.Need-write-pooled-requires
 writable c κs =
     let four = c .before .before in
-    let two = four .before .before .before in
-    let one = two .before in
-    let within = one .before in
+    let within = four .before .before .before .before .before in
     let scale = within .before .before in
     let parts = scale .before .before in
     can-write _ _ _ _ _ _
     (parts .before .before .check-parts .ensures) (parts .parts2 .given .1)
     (scale .scale-of .ensures)
-    (one .if1 .left)
-    (within .pooled-within .ensures) (two .if2 .left)
+    (search needs)
+    (within .pooled-within .ensures) (search needs)
     _ (four .if4 .left)
 
 pub pool-spec : {M : Type 1} → statement M
@@ -28,8 +26,8 @@ pool-spec =
     (λ c κs. search (needs, pair-denominators))
     (λ c. search needs)
     (λ c κs. search (needs, cells-scaled))
-    (λ c. search (needs, multiple-stops))
-    (λ c. search (needs, cell-stops))
+    (λ c. search (needs, multiple-stops, cell-stops))
+    (λ c. search (needs, multiple-stops, cell-stops))
     (λ c. search (needs, numbers-stop))
     (λ c. search (needs, cells-stop))
     (λ c κs. search (needs, multiple-narrow))
