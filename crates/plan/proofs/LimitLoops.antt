@@ -1,11 +1,12 @@
 -- What the functions on limits keep. Assumes nothing.
-use mathlib.Core.Path.{_≡_, refl, ap, _∙_}
+use mathlib.Core.Path.{_≡_, refl, sym, ap, _∙_}
 use mathlib.Core.List.{List}
 use Prim.Native.Nat.{ℕ, _+_, _-_, _*_, _/_, _≤_, _<_, min}
 use native.Mathlib.Decide.{decLt}
-use native.Mathlib.Nat.{div-add-mod', mod-lt, add-mul, one-mul}
+use native.Mathlib.Nat.{mul-sub, le-mul-of-pos-right, lt-of-mul-lt-mul-right, div-mul-le-self, div-eq-of-lt-le}
 use native.Mathlib.Omega.{arith}
 use borrow.Author.Count.{below-more}
+use borrow.Author.Tests.{eq-eqb, ne-eqb}
 use lib.ListN.{length, getD, set, length-set}
 use lib.Seq.{getD-set-other}
 use mir.Val.{Fits}
@@ -14,44 +15,46 @@ use Rattle.base.proofs.Lists.{each-more}
 use Rattle.table.proofs.RoundTests.{rounded-high, rounded-low}
 use Rattle.plan.specs.Rounds.{limitOf}
 use Rattle.plan.specs.Grids.{LimitReady, Rounded, Smallest, Bears, Lost}
-use Rattle.plan.proofs.Entries.{Side, side, below, above}
 
--- the limit without division
+-- the two cases of a limit: n·w is at most e where the count n is e over w rounded down, and above e where it is rounded up
 module _ (w e n : ℕ) (p : LimitReady w e n) where
-  wp : 0 < w
-  wp = p .some
-
   high : n * w < e + w
-  high = rounded-high w e n wp (p .rounds)
+  high = rounded-high w e n (p .some) (p .rounds)
 
-  limits-are : (n * w ≤ e → n * w + w - e ≡ limitOf w e n) × (e < n * w → e + w - n * w ≡ limitOf w e n)
-  limits-are = go (side w wp e n (p .rounds))
-    where
-      go : Side w wp e n (p .rounds) → (n * w ≤ e → n * w + w - e ≡ limitOf w e n) × (e < n * w → e + w - n * w ≡ limitOf w e n)
-      go (below q l) =
-          let m : n * w ≡ e / w * w = ap (λ (x : ℕ). x * w) q in
-          (λ h. omega (arith, div-add-mod' e w), λ h. absurd (omega (arith, div-add-mod' e w)))
-      go (above q z l) =
-          let m : n * w ≡ e / w * w + w = ap (λ (x : ℕ). x * w) q ∙ add-mul (e / w) 1 w ∙ ap (λ (x : ℕ). e / w * w + x) (one-mul w) in
-          (λ h. absurd (omega (arith, div-add-mod' e w, mod-lt e wp)), λ h. omega (arith, div-add-mod' e w))
+  low : e < (n + 1) * w
+  low = omega (arith, rounded-low w e n (p .some) (p .rounds))
+
+  last : (n - 1) * w ≡ n * w - w
+  last = omega (arith, mul-sub w n 1)
 
   pub product-fits : Fits w64 (n * w)
   product-fits = record { fits = omega (arith, high, p .small, p .entry-small) }
 
-  pub next-fits : Fits w64 (n * w + w)
+  pub count-fits : Fits w64 (n + 1)
+  count-fits = record { fits = omega (arith, high, p .small, p .entry-small, le-mul-of-pos-right n (p .some)) }
+
+  pub next-fits : Fits w64 ((n + 1) * w)
   next-fits = record { fits = omega (arith, high, p .small, p .entry-small) }
 
-  pub above-whole : e ≤ n * w + w
-  above-whole = omega (arith, rounded-low w e n wp (p .rounds))
+  pub next-enough : e ≤ (n + 1) * w
+  next-enough = omega (arith, low)
 
-  pub below-whole : n * w ≤ e + w
-  below-whole = omega (arith, high)
+  pub last-fits : Fits w64 ((n - 1) * w)
+  last-fits = record { fits = omega (arith, last, product-fits .fits) }
 
-  pub limit-below : n * w ≤ e → n * w + w - e ≡ limitOf w e n
-  limit-below = limits-are .0
+  pub last-below : (n - 1) * w ≤ e
+  last-below = omega (arith, last, high)
 
-  pub limit-above : e < n * w → e + w - n * w ≡ limitOf w e n
-  limit-above = limits-are .1
+  pub limit-down : n * w ≤ e → (n + 1) * w - e ≡ limitOf w e n
+  unfolding limitOf
+  limit-down h = simp (eq-eqb n (e / w) (sym (div-eq-of-lt-le w h low)))
+
+  pub count-some : e < n * w → 1 ≤ n
+  count-some h = lt-of-mul-lt-mul-right w {m = 0} {n = n} (omega arith)
+
+  pub limit-up : e < n * w → e - (n - 1) * w ≡ limitOf w e n
+  unfolding limitOf
+  limit-up h = simp (ne-eqb n (e / w) (λ q. let m : n * w ≡ e / w * w = ap (λ (x : ℕ). x * w) q in omega (arith, div-mul-le-self e w)))
 
 pub limit-ready : {w : ℕ} {e n : List ℕ} {k : ℕ} → Rounded w e n → k < 169
     → LimitReady w (getD e k 0) (getD n k 0)

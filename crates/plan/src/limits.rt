@@ -5,16 +5,18 @@ ghost use Rattle.base.specs.Lists.{tabulate};
 ghost use Rattle.plan.specs.Rounds.{limitOf};
 ghost use Rattle.plan.specs.Grids.{LimitReady, LimitsReady, limitAt, Smallest, Bears, Lost};
 
-// The limit of an entry e over w whose count is n: how much weight it bears until it leaves its bounds.
+// The limit of an entry e over w whose count is n: how much weight it bears until it leaves its bounds. It is t_ijk of Step 5 (Ernst 1981, Section 3) times w,
+// where a_ij is e over w and n_ijk is n. Since n rounds e over w, it is rounded down just if n·w is at most e.
 pub fn limit(w: u64, e: u64, n: u64) -> u64
     requires { ⌜ LimitReady w e n ⌝ }
     ensures { λ r. ⌜ r ≡ limitOf w e n ⌝ }
 {
-    let whole = n * w;
-    if whole <= e {
-        whole + w - e
+    if n * w <= e {
+        // t_ijk = ⌊a_ij⌋ + 1 − a_ij if n_ijk = ⌊a_ij⌋
+        (n + 1) * w - e
     } else {
-        e + w - whole
+        // t_ijk = a_ij − ⌊a_ij⌋ if n_ijk = ⌊a_ij⌋ + 1
+        e - (n - 1) * w
     }
 }
 
