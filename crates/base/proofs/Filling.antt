@@ -29,10 +29,6 @@ module _ {f : ℕ → ℕ} {from : ℕ} {old new : List ℕ} {i : ℕ} (p : Fill
   pub filled-to : {n : ℕ} → i ≤ n → n ≤ i → Filled f from old new n
   filled-to {n} a b = let e : i ≡ n = omega arith in rw e at p
 
--- the same numbers by another function
-pub filled-ext : {f g : ℕ → ℕ} {from : ℕ} {old new : List ℕ} {n : ℕ} → Filled g from old new n → ((k : ℕ) → k < n → g k ≡ f k) → Filled f from old new n
-filled-ext p e = record { len = p .len; inside = λ k h. p .inside k h ∙ e k h; before = p .before; beyond = p .beyond }
-
 -- one run after another
 pub filled-join : {f g : ℕ → ℕ} {from i : ℕ} {old mid new : List ℕ} {n : ℕ} → Filled f from old mid i → Filled g (from + i) mid new n
     → ((k : ℕ) → k < n → g k ≡ f (i + k)) → Filled f from old new (i + n)

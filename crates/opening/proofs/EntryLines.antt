@@ -1,9 +1,9 @@
 -- The entries that an array is held to, kind by kind, and the loops over them. Assumes nothing.
-use mathlib.Core.Path.{_≡_, refl, sym, ap, ap₂, _∙_}
+use mathlib.Core.Path.{_≡_, refl, sym, ap, _∙_}
 use mathlib.Core.Bool.{Bool, true, false, cond, not, _&&_}
 use mathlib.Core.List.{List, [], _++_}
-use Prim.Native.Nat.{ℕ, _+_, _*_, _<_, _≤_}
-use native.Mathlib.Nat.{mul-one, mul-le-mul, mul-le-mul-right, le-trans, div-le-of-le-mul}
+use Prim.Native.Nat.{ℕ, _+_, _-_, _*_, _<_, _≤_}
+use native.Mathlib.Nat.{zero-add, mul-one, mul-le-mul, mul-le-mul-right, le-trans, div-le-of-le-mul}
 use native.Mathlib.Omega.{arith}
 use lib.ListN.{length, getD, set, length-append, List·getD-append}
 use lib.Seq.{getD-append-add}
@@ -15,8 +15,8 @@ use Rattle.base.specs.Lists.{tabulate, every}
 use Rattle.base.specs.Fill.{Filled}
 use Rattle.base.proofs.Lists.{length-tabulate, getD-tabulate}
 use Rattle.base.proofs.SumLoops.{Summed, summed-none, summed-more, summed-all}
-use Rattle.base.proofs.Every.{sum-none, every-add, every-ext}
-use Rattle.base.proofs.Filling.{filled-none, filled-more, filled-to, filled-ext, filled-join}
+use Rattle.base.proofs.Every.{sum-none, every-add, every-ext, every-intro}
+use Rattle.base.proofs.Filling.{filled-none, filled-more, filled-to, filled-join}
 use Rattle.table.specs.Table.{total, cellPlaces, rowPlaces, columnPlaces, lines}
 use Rattle.table.specs.Whole.{down, gap, up}
 use Rattle.table.specs.Divide.{Divides}
@@ -29,7 +29,11 @@ use Rattle.opening.specs.declared.lines.Lines.{Lines}
 use Rattle.opening.specs.Open.{heldTo}
 use Rattle.opening.specs.Lines.{linePlaces, cellLines, rowLines, columnLines, Placed, Cells, Room, BoundsFrom, entryOf, Bounds, between, oneOutside, linesBetween, entriesBetween}
 
--- where each kind stands among the entries
+-- the entries of a kind stand from a place on among those that an array is held to
+pub record Stands (r c : ℕ) (k : Lines) (from : ℕ) : Type 0 where
+  pub at : (l : ℕ) → l < k .count → getD (heldTo r c) (from + l) [] ≡ linePlaces k l
+  pub inside : from + k .count ≤ length (heldTo r c)
+
 module _ (r c : ℕ) where
   abbrev cellsPart : List (List ℕ)
   cellsPart = tabulate (r * c) cellPlaces
@@ -40,7 +44,7 @@ module _ (r c : ℕ) where
   abbrev columnsPart : List (List ℕ)
   columnsPart = tabulate c (columnPlaces r c)
 
-  pub held-length : length (heldTo r c) ≡ r * c + (r + c)
+  pub held-length : length (heldTo r c) ≡ r * c + r + c
   unfolding lines
   held-length =
       simp length-append (omega (arith, length-tabulate (r * c) cellPlaces, length-tabulate r (rowPlaces c), length-tabulate c (columnPlaces r c)))
@@ -65,6 +69,15 @@ module _ (r c : ℕ) where
       ap (λ (n : ℕ). getD (heldTo r c) n []) e ∙ in-lines (r + l)
       ∙ ap (λ (n : ℕ). getD (rowsPart ++ columnsPart) (n + l) []) (sym (length-tabulate r (rowPlaces c))) ∙ getD-append-add rowsPart columnsPart l []
       ∙ getD-tabulate c (columnPlaces r c) l [] h ∙ ap (columnPlaces r c) (sym (mul-one l))
+
+  pub stands-cells : Stands r c (cellLines r c) 0
+  stands-cells = record { at = at-cell; inside = omega (arith, held-length) }
+
+  pub stands-rows : Stands r c (rowLines r c) (r * c)
+  stands-rows = record { at = at-row; inside = omega (arith, held-length) }
+
+  pub stands-columns : Stands r c (columnLines r c) (r * c + r)
+  stands-columns = record { at = at-column; inside = omega (arith, held-length) }
 
 -- each kind lies among the cells
 module _ {r c : ℕ} {g : List ℕ} (s : Shape r c g) where
@@ -156,33 +169,33 @@ module _ {d : ℕ} {f : ℕ → ℕ} {from : ℕ} {low high low′ high′ : Lis
   pub bounds-all : {n : ℕ} → l ≤ n → n ≤ l → BoundsFrom d f from low high low′ high′ n
   bounds-all a c = record { lows = filled-to (b .lows) a c; highs = filled-to (b .highs) a c }
 
--- the three kinds, one after another
-module _ (r c : ℕ) (g : List ℕ) (h : ℕ → ℕ) {a b m z : List ℕ} (cells : Filled (λ l. h (total g (linePlaces (cellLines r c) l))) 0 a b (r * c))
-    (rows : Filled (λ l. h (total g (linePlaces (rowLines r c) l))) (r * c) b m r)
-    (columns : Filled (λ l. h (total g (linePlaces (columnLines r c) l))) (r * c + r) m z c) where
-  joined : Filled (λ e. h (entryOf r c g e)) 0 a z (r * c + r + c)
-  joined =
-      let one = filled-ext cells (λ l i. let z : 0 + l ≡ l = omega arith in ap (λ (s : List ℕ). h (total g s)) (sym (at-cell r c l i)) ∙ ap (λ (n : ℕ). h (entryOf r c g n)) z) in
-      let y : r * c ≡ 0 + r * c = omega arith in
-      let two = filled-join one (rw y at rows) (λ l i. ap (λ (s : List ℕ). h (total g s)) (sym (at-row r c l i))) in
-      let x : r * c + r ≡ 0 + (r * c + r) = omega arith in
-      filled-join two (rw x at columns) (λ l i. ap (λ (s : List ℕ). h (total g s)) (sym (at-column r c l i)))
+-- one kind after another: the bounds of the first n entries, and of one kind more
+pub record BoundsTo (r c d : ℕ) (g a₀ b₀ a b : List ℕ) (n : ℕ) : Type 0 where
+  pub are : BoundsFrom d (entryOf r c g) 0 a₀ b₀ a b n
 
-  pub joined-at : (e : ℕ) → e < length (heldTo r c) → getD z e 0 ≡ h (entryOf r c g e)
-  joined-at e i =
-      let y : 0 + e ≡ e = omega arith in
-      rw y at (joined .inside e (omega (arith, held-length r c)))
+module _ {r c d : ℕ} {g a₀ b₀ a b : List ℕ} {n : ℕ} (so-far : BoundsTo r c d g a₀ b₀ a b n) where
+  kind-joined : (h : ℕ → ℕ) {x₀ x y : List ℕ} {k : Lines} → Filled (λ e. h (entryOf r c g e)) 0 x₀ x n → Stands r c k n
+      → Filled (λ l. h (total g (linePlaces k l))) n x y (k .count) → Filled (λ e. h (entryOf r c g e)) 0 x₀ y (n + k .count)
+  kind-joined h p s q =
+      let z : n ≡ 0 + n = omega arith in
+      filled-join p (rw z at q) (λ l i. ap (λ (places : List ℕ). h (total g places)) (sym (s .at l i)))
 
-module _ {r c d : ℕ} {g a₀ b₀ a₁ b₁ a₂ b₂ a₃ b₃ : List ℕ} (room : Room a₀ b₀)
-    (cells : BoundsFrom d (λ l. total g (linePlaces (cellLines r c) l)) 0 a₀ b₀ a₁ b₁ (r * c))
-    (rows : BoundsFrom d (λ l. total g (linePlaces (rowLines r c) l)) (r * c) a₁ b₁ a₂ b₂ r)
-    (columns : BoundsFrom d (λ l. total g (linePlaces (columnLines r c) l)) (r * c + r) a₂ b₂ a₃ b₃ c) where
-  pub bounds-of : Bounds r c d g a₃ b₃
-  bounds-of = record {
-    room = bounds-length columns (bounds-length rows (bounds-length cells room));
-    lows = joined-at r c g (down d) (cells .lows) (rows .lows) (columns .lows);
-    highs = joined-at r c g (up d) (cells .highs) (rows .highs) (columns .highs);
+  pub kind-bounds : {k : Lines} {a′ b′ : List ℕ} → Stands r c k n → BoundsFrom d (λ l. total g (linePlaces k l)) n a b a′ b′ (k .count)
+      → BoundsTo r c d g a₀ b₀ a′ b′ (n + k .count)
+  kind-bounds s q = record {
+    are = record { lows = kind-joined (down d) (so-far .are .lows) s (q .lows); highs = kind-joined (up d) (so-far .are .highs) s (q .highs) };
   }
+
+  pub bounds-of : Room a₀ b₀ → length (heldTo r c) ≡ n → Bounds r c d g a b
+  bounds-of room all = record {
+    room = bounds-length (so-far .are) room;
+    lows = λ e i. rw (zero-add e) at (so-far .are .lows .inside e (omega arith));
+    highs = λ e i. rw (zero-add e) at (so-far .are .highs .inside e (omega arith));
+  }
+
+pub cells-bounds : (r c d : ℕ) (g : List ℕ) {a b a′ b′ : List ℕ} → BoundsFrom d (λ l. total g (linePlaces (cellLines r c) l)) 0 a b a′ b′ (r * c)
+    → BoundsTo r c d g a b a′ b′ (r * c)
+cells-bounds r c d g {a} {b} q = rw (zero-add (r * c)) at (kind-bounds (record { are = bounds-none d (entryOf r c g) 0 a b }) (stands-cells r c) q)
 
 -- an array's entries between the bounds
 abbrev lineBetween : List ℕ → List ℕ → List ℕ → Lines → ℕ → ℕ → Bool
@@ -234,37 +247,39 @@ module _ {n low high : List ℕ} {k : Lines} {from l s : ℕ} (m : Outside n low
       let f : ℕ → ℕ = λ i. cond (lineBetween n low high k from i) 0 1 in
       ap (λ (x : ℕ). eqb x 0) (summed-all (m .sum) h q .0) ∙ sym (sum-none (k .count) f) ∙ every-ext (k .count) _ _ (λ i _. sym (none-so (lineBetween n low high k from i)))
 
--- all kinds
-module _ (r c : ℕ) (n low high : List ℕ) where
-  abbrev entryBetween : ℕ → Bool
-  entryBetween e = between (getD low e 0) (getD high e 0) (entryOf r c n e)
+-- one kind after another: the first m entries of an array n lie between their bounds, and those of one kind more do or do not
+abbrev entryBetween : ℕ → ℕ → List ℕ → List ℕ → List ℕ → ℕ → Bool
+entryBetween r c n low high e = between (getD low e 0) (getD high e 0) (entryOf r c n e)
 
-  abbrev part : Lines → ℕ → Bool
-  part k from = linesBetween n low high k from
+pub record BetweenTo (r c : ℕ) (n low high : List ℕ) (m : ℕ) : Type 0 where
+  pub all : every m (entryBetween r c n low high) ≡ true
 
-  at-place : (from : ℕ) (k : Lines) (l : ℕ) → getD (heldTo r c) (from + l) [] ≡ linePlaces k l → entryBetween (from + l) ≡ lineBetween n low high k from l
-  at-place from k l e = ap (λ (s : List ℕ). between (getD low (from + l) 0) (getD high (from + l) 0) (total n s)) e
+pub between-none : (r c : ℕ) (n low high : List ℕ) → BetweenTo r c n low high 0
+between-none r c n low high = record { all = every-intro _ 0 (λ e h. absurd (omega arith)) }
 
-  held-parts : entriesBetween r c n low high ≡ (part (cellLines r c) 0 && (part (rowLines r c) (r * c) && part (columnLines r c) (r * c + r)))
-  unfolding entriesBetween linesBetween
-  held-parts =
-      let size : length (heldTo r c) ≡ r * c + (r + c) = held-length r c in
-      let cells : every (r * c) entryBetween ≡ part (cellLines r c) 0 =
-      every-ext (r * c) _ _ (λ l h. let z : l ≡ 0 + l = omega arith in ap entryBetween z ∙ at-place 0 (cellLines r c) l (at-cell r c l h)) in
-      let rows : every r (λ i. entryBetween (r * c + i)) ≡ part (rowLines r c) (r * c) = every-ext r _ _ (λ l h. at-place (r * c) (rowLines r c) l (at-row r c l h)) in
-      let columns : every c (λ i. entryBetween (r * c + (r + i))) ≡ part (columnLines r c) (r * c + r) =
-      every-ext c _ _ (λ l h. let z : r * c + (r + l) ≡ r * c + r + l = omega arith in ap entryBetween z ∙ at-place (r * c + r) (columnLines r c) l (at-column r c l h)) in
-      ap (λ (m : ℕ). every m entryBetween) size ∙ every-add (r * c) (r + c) entryBetween
-      ∙ ap (λ (b : Bool). every (r * c) entryBetween && b) (every-add r c (λ i. entryBetween (r * c + i)))
-      ∙ ap₂ _&&_ cells (ap₂ _&&_ rows columns)
+module _ {r c : ℕ} {n low high : List ℕ} {from : ℕ} (so-far : BetweenTo r c n low high from) {k : Lines} (s : Stands r c k from)
+    {x : Bool} (e : x ≡ linesBetween n low high k from) where
+  kind-is : every (from + k .count) (entryBetween r c n low high) ≡ x
+  unfolding linesBetween
+  kind-is =
+      let kind : every (k .count) (λ l. entryBetween r c n low high (from + l)) ≡ x =
+      every-ext (k .count) _ _ (λ l i. ap (λ (places : List ℕ). between (getD low (from + l) 0) (getD high (from + l) 0) (total n places)) (s .at l i)) ∙ sym e in
+      every-add from (k .count) (entryBetween r c n low high) ∙ simp (so-far .all, kind)
 
-  module _ {x : Bool} (xe : x ≡ part (cellLines r c) 0) where
-    pub bad-cells : not x ≡ true → false ≡ entriesBetween r c n low high
-    bad-cells h = sym (held-parts ∙ simp (sym xe ∙ not-true x h))
+  pub kind-passes : not x ≡ false → BetweenTo r c n low high (from + k .count)
+  kind-passes h = record { all = kind-is ∙ not-false x h }
 
-    module _ (xh : not x ≡ false) {y : Bool} (ye : y ≡ part (rowLines r c) (r * c)) where
-      pub bad-rows : not y ≡ true → false ≡ entriesBetween r c n low high
-      bad-rows h = sym (held-parts ∙ simp (sym xe ∙ not-false x xh, sym ye ∙ not-true y h))
+  pub kind-fails : not x ≡ true → false ≡ entriesBetween r c n low high
+  unfolding entriesBetween
+  kind-fails h =
+      let later = length (heldTo r c) - (from + k .count) in
+      let whole : from + k .count + later ≡ length (heldTo r c) = omega (arith, s .inside) in
+      sym (ap (λ (m : ℕ). every m (entryBetween r c n low high)) (sym whole)
+      ∙ every-add (from + k .count) later (entryBetween r c n low high) ∙ simp (kind-is ∙ not-true x h))
 
-      pub columns-last : not y ≡ false → {z : Bool} → z ≡ part (columnLines r c) (r * c + r) → z ≡ entriesBetween r c n low high
-      columns-last h ze = ze ∙ sym (held-parts ∙ simp (sym xe ∙ not-false x xh, sym ye ∙ not-false y h))
+  pub kind-last : length (heldTo r c) ≡ from + k .count → x ≡ entriesBetween r c n low high
+  unfolding entriesBetween
+  kind-last all = sym (ap (λ (m : ℕ). every m (entryBetween r c n low high)) all ∙ kind-is)
+
+pub cells-pass : (r c : ℕ) (n low high : List ℕ) {x : Bool} → x ≡ linesBetween n low high (cellLines r c) 0 → not x ≡ false → BetweenTo r c n low high (r * c)
+cells-pass r c n low high e h = rw (zero-add (r * c)) at (kind-passes (between-none r c n low high) (stands-cells r c) e h)

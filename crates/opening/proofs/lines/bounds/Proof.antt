@@ -1,4 +1,4 @@
-use Rattle.opening.proofs.EntryLines.{placed-cells, placed-rows, placed-columns, bounds-length, bounds-of}
+use Rattle.opening.proofs.EntryLines.{held-length, stands-rows, stands-columns, placed-cells, placed-rows, placed-columns, bounds-length, kind-bounds, cells-bounds, bounds-of}
 use borrow.Author.Needs.{needs}
 use Rattle.opening.proofs.lines.bounds.Statement.{statement}
 use Rattle.opening.proofs.lines.bounds.Tie as tie
@@ -38,8 +38,12 @@ returns c =
     let first = rows .before in
     let cells = first .before .before .before in
     let pre = cells .before .before .pre in
-    bounds-of (pre .room) (rw (cells .cells-of .ensures) at (first .line-bounds .ensures)) (rw (rows .rows-of .ensures) at (second .line-bounds2 .ensures))
-    (rw (columns .columns-of .ensures) at (c .line-bounds3 .ensures))
+    bounds-of
+    (kind-bounds
+    (kind-bounds (cells-bounds _ _ _ _ (rw (cells .cells-of .ensures) at (first .line-bounds .ensures)))
+    (stands-rows _ _) (rw (rows .rows-of .ensures) at (second .line-bounds2 .ensures)))
+    (stands-columns _ _) (rw (columns .columns-of .ensures) at (c .line-bounds3 .ensures)))
+    (pre .room) (held-length _ _)
 
 pub bounds-spec : {M : Type 1} → statement M
 bounds-spec =

@@ -1,4 +1,4 @@
-use Rattle.opening.proofs.EntryLines.{placed-cells, placed-rows, placed-columns, bad-cells, bad-rows, columns-last}
+use Rattle.opening.proofs.EntryLines.{held-length, stands-cells, stands-rows, stands-columns, placed-cells, placed-rows, placed-columns, kind-passes, kind-fails, kind-last, between-none, cells-pass}
 use borrow.Author.Needs.{needs}
 use Rattle.opening.proofs.lines.held.Statement.{statement}
 use Rattle.opening.proofs.lines.held.Tie as tie
@@ -11,7 +11,7 @@ lines-between-requires c κs =
 returns : tie.Need-returns
 returns c =
     let cells = c .before in
-    bad-cells _ _ _ _ _ (rw (cells .before .cells-of .ensures) at (cells .lines-between .ensures)) (c .if1 .taken)
+    kind-fails (between-none _ _ _ _ _) (stands-cells _ _) (rw (cells .before .cells-of .ensures) at (cells .lines-between .ensures)) (c .if1 .taken)
 
 lines-between-requires-2 : tie.Need-lines-between-requires-2
 lines-between-requires-2 c κs =
@@ -22,8 +22,9 @@ returns-2 : tie.Need-returns-2
 returns-2 c =
     let rows = c .before in
     let cells = rows .before .before .before in
-    bad-rows _ _ _ _ _ (rw (cells .before .cells-of .ensures) at (cells .lines-between .ensures)) (rows .before .before .if1 .left)
-    (rw (rows .before .rows-of .ensures) at (rows .lines-between2 .ensures)) (c .if2 .taken)
+    kind-fails
+    (cells-pass _ _ _ _ _ (rw (cells .before .cells-of .ensures) at (cells .lines-between .ensures)) (rows .before .before .if1 .left))
+    (stands-rows _ _) (rw (rows .before .rows-of .ensures) at (rows .lines-between2 .ensures)) (c .if2 .taken)
 
 lines-between-requires-3 : tie.Need-lines-between-requires-3
 lines-between-requires-3 c κs =
@@ -35,8 +36,11 @@ returns-3 c =
     let tested = c .before .before in
     let rows = tested .before in
     let cells = rows .before .before .before in
-    columns-last _ _ _ _ _ (rw (cells .before .cells-of .ensures) at (cells .lines-between .ensures)) (rows .before .before .if1 .left)
-    (rw (rows .before .rows-of .ensures) at (rows .lines-between2 .ensures)) (tested .if2 .left) (rw (c .before .columns-of .ensures) at (c .lines-between3 .ensures))
+    kind-last
+    (kind-passes
+    (cells-pass _ _ _ _ _ (rw (cells .before .cells-of .ensures) at (cells .lines-between .ensures)) (rows .before .before .if1 .left))
+    (stands-rows _ _) (rw (rows .before .rows-of .ensures) at (rows .lines-between2 .ensures)) (tested .if2 .left))
+    (stands-columns _ _) (rw (c .before .columns-of .ensures) at (c .lines-between3 .ensures)) (held-length _ _)
 
 pub held-spec : {M : Type 1} → statement M
 held-spec =
