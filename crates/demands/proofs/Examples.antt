@@ -6,7 +6,7 @@ use native.Mathlib.Omega.{arith}
 use borrow.Author.Tests.{le-leb, lt-leb}
 use Rattle.base.specs.Lists.{tabulate, sum, sumTo, joinTo, least, all}
 use Rattle.refusals.specs.Due.{due, answerOf, after}
-use Rattle.table.specs.Table.{total, entryPlaces, lines}
+use Rattle.table.specs.Table.{total, entryPlaces}
 use Rattle.table.specs.Whole.{whole, gap, roundsTo}
 use Rattle.table.specs.Check.{tableRefusal, checkOf, checkedNumber}
 use Rattle.order.specs.Order.{nthRow, nthColumn, rank}
@@ -25,7 +25,7 @@ use Rattle.demands.specs.Campaigns.{runs, saidOf}
 use Rattle.demands.specs.Slips.{SlipsShut, roundsOverCells, mended, drawsCountingAll}
 
 rows-hold : map (λ x. computed x (x .said)) examples ≡ map (λ x. x .said) examples
-unfolding planOf roundsFrom weightOf limitOf without tabulate sum least all total entryPlaces lines whole gap roundsTo nthRow nthColumn rank inOrder arrayOf firstOf isRounding firstRounding zipWith arrayFor checkOf tableRefusal due
+unfolding planOf roundsFrom weightOf limitOf without tabulate sum least all total entryPlaces whole gap roundsTo nthRow nthColumn rank inOrder arrayOf firstOf isRounding firstRounding zipWith arrayFor checkOf tableRefusal due
 rows-hold = refl
 
 module _ (d : ℕ) (some : 1 ≤ d) (h : d ≤ 65535) where
@@ -41,9 +41,9 @@ pub examples-hold : ExamplesHold
 examples-hold = record { rows = rows-hold; zeros = zero-plan; cell-taken = taken; cell-above = above }
 
 pub runs-hold : map (λ r. saidOf (r .plan) (r .list)) runs ≡ map (λ r. r .said) runs
-unfolding draws lastRecord used overAccepted unused started made startRefusal cleared campaignRefusal taking fits bitOf sumTo arrayFor due answerOf after number decode headRight laidOut consistent tabulate sum all lines total whole roundsTo
+unfolding draws lastRecord used overAccepted unused started made startRefusal cleared campaignRefusal taking fits bitOf sumTo arrayFor due answerOf after number decode headRight laidOut consistent tabulate sum all entryPlaces total whole roundsTo
 runs-hold = refl
 
 pub slips-shut : SlipsShut
-unfolding roundsOverCells mended drawsCountingAll draws lastRecord overAccepted made campaignRefusal taking fits bitOf sumTo arrayFor due answerOf after encode head contentsEntry bytes joinTo number decode headRight laidOut consistent planOf roundsFrom weightOf limitOf without tabulate sum least all total entryPlaces lines whole gap roundsTo nthRow nthColumn rank inOrder arrayOf firstOf isRounding firstRounding zipWith
+unfolding roundsOverCells mended drawsCountingAll draws lastRecord overAccepted made campaignRefusal taking fits bitOf sumTo arrayFor due answerOf after encode head contentsEntry bytes joinTo number decode headRight laidOut consistent planOf roundsFrom weightOf limitOf without tabulate sum least all total entryPlaces whole gap roundsTo nthRow nthColumn rank inOrder arrayOf firstOf isRounding firstRounding zipWith
 slips-shut = record { right = refl; wrong = refl; mended-rounds = refl }

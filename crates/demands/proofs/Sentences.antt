@@ -9,7 +9,7 @@ use borrow.Author.Tests.{eq-eqb, eqb-true}
 use Rattle.table.specs.Table.{maxEntries, entryPlaces}
 use Rattle.table.specs.Whole.{down, whole}
 use Rattle.plan.specs.Rounds.{limitOf}
-use Rattle.plan.proofs.Gathering.{entries-length}
+use Rattle.table.proofs.EntryPlaces.{entries-length}
 
 pub few-entries : (r c : ℕ) → r ≤ 12 → c ≤ 12 → length (entryPlaces r c) ≤ maxEntries
 few-entries r c hr hc = omega (arith, entries-length r c, mul-le-mul hr hc)

@@ -8,6 +8,7 @@ use Rattle.refusals.specs.Answer.{answerNumber}
 use Rattle.form.specs.Form.{decode}
 use Rattle.form.specs.Examples.{square}
 use Rattle.opening.specs.Open.{heldTo}
+use Rattle.opening.specs.Examples.{grandVaries}
 use Rattle.campaign.specs.Record.{CampaignRecord, recordOf}
 use Rattle.campaign.specs.Calls.{started, Asked}
 use Rattle.campaign.specs.Examples.{single, any, five}
@@ -15,7 +16,7 @@ use Rattle.demands.specs.Runs.{draws, lastRecord, used, accepted, drawn,
 use Rattle.demands.specs.Claim.{numberDue}
 
 -- a run from a record that held anything, and what is said of it: its answers; which numbers are used; m; drawn, and what the unused numbers hold,
--- for each cell, row and column; the last record; and the answers due next to draws 0, 1 and 2, and to 1 with no buffer
+-- for each cell, row and column and the grand total; the last record; and the answers due next to draws 0, 1 and 2, and to 1 with no buffer
 pub record Said : Type 0 where
   pub answers : List ℕ
   pub which : List Bool
@@ -61,18 +62,22 @@ abbrev pub runs : List Run
 runs =
     run square []
     (says [] (false ∷ false ∷ []) 0
-    (0 ∷ 0 ∷ 0 ∷ 0 ∷ 0 ∷ 0 ∷ 0 ∷ 0 ∷ []) (1 ∷ 1 ∷ 1 ∷ 1 ∷ 2 ∷ 2 ∷ 2 ∷ 2 ∷ [])
+    (0 ∷ 0 ∷ 0 ∷ 0 ∷ 0 ∷ 0 ∷ 0 ∷ 0 ∷ 0 ∷ []) (1 ∷ 1 ∷ 1 ∷ 1 ∷ 2 ∷ 2 ∷ 2 ∷ 2 ∷ 4 ∷ [])
     (recordOf 0 (0 ∷ 6 ∷ []) (0 ∷ 0 ∷ 0 ∷ 0 ∷ 5 ∷ [])) (0 ∷ 0 ∷ 8 ∷ 7 ∷ []))
     ∷ run square (askShort 1 ∷ ask 0 ∷ ask 0 ∷ ask 2 ∷ [])
     (says (7 ∷ 0 ∷ 10 ∷ 8 ∷ []) (true ∷ false ∷ []) 1
-    (0 ∷ 1 ∷ 1 ∷ 0 ∷ 1 ∷ 1 ∷ 1 ∷ 1 ∷ []) (1 ∷ 0 ∷ 0 ∷ 1 ∷ 1 ∷ 1 ∷ 1 ∷ 1 ∷ [])
+    (0 ∷ 1 ∷ 1 ∷ 0 ∷ 1 ∷ 1 ∷ 1 ∷ 1 ∷ 2 ∷ []) (1 ∷ 0 ∷ 0 ∷ 1 ∷ 1 ∷ 1 ∷ 1 ∷ 1 ∷ 2 ∷ [])
     (recordOf 1 (1 ∷ 6 ∷ []) (0 ∷ 1 ∷ 1 ∷ 0 ∷ 5 ∷ [])) (10 ∷ 0 ∷ 8 ∷ 7 ∷ []))
     ∷ run square (ask 1 ∷ ask 0 ∷ [])
     (says (0 ∷ 0 ∷ []) (true ∷ true ∷ []) 2
-    (1 ∷ 1 ∷ 1 ∷ 1 ∷ 2 ∷ 2 ∷ 2 ∷ 2 ∷ []) (0 ∷ 0 ∷ 0 ∷ 0 ∷ 0 ∷ 0 ∷ 0 ∷ 0 ∷ [])
+    (1 ∷ 1 ∷ 1 ∷ 1 ∷ 2 ∷ 2 ∷ 2 ∷ 2 ∷ 4 ∷ []) (0 ∷ 0 ∷ 0 ∷ 0 ∷ 0 ∷ 0 ∷ 0 ∷ 0 ∷ 0 ∷ [])
     (recordOf 2 (3 ∷ 6 ∷ []) (1 ∷ 1 ∷ 1 ∷ 1 ∷ 5 ∷ [])) (10 ∷ 10 ∷ 8 ∷ 7 ∷ []))
+    ∷ run grandVaries (ask 1 ∷ [])
+    (says (0 ∷ []) (false ∷ true ∷ []) 1
+    (0 ∷ 1 ∷ 1 ∷ 0 ∷ 1 ∷ 1 ∷ 1 ∷ 1 ∷ 2 ∷ []) (1 ∷ 0 ∷ 0 ∷ 0 ∷ 1 ∷ 0 ∷ 1 ∷ 0 ∷ 1 ∷ [])
+    (recordOf 1 (2 ∷ 6 ∷ []) (0 ∷ 1 ∷ 1 ∷ 0 ∷ 5 ∷ [])) (0 ∷ 10 ∷ 8 ∷ 7 ∷ []))
     ∷ run (single 1) (ask 0 ∷ ask 0 ∷ ask 1 ∷ [])
     (says (0 ∷ 10 ∷ 8 ∷ []) (true ∷ []) 1
-    (1 ∷ 1 ∷ 1 ∷ []) (0 ∷ 0 ∷ 0 ∷ [])
+    (1 ∷ 1 ∷ 1 ∷ 1 ∷ []) (0 ∷ 0 ∷ 0 ∷ 0 ∷ [])
     (recordOf 1 (1 ∷ 6 ∷ []) (1 ∷ 2 ∷ 3 ∷ 4 ∷ 5 ∷ [])) (10 ∷ 8 ∷ 8 ∷ 7 ∷ []))
     ∷ []

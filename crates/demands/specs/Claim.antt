@@ -56,9 +56,10 @@ pub record RunClaim (b : List ℕ) (s₀ : CampaignRecord) (l : List Asked) (p :
   -- the draws made are those asked for, each as claimed
   pub asked : map (λ t. t .asked) run ≡ l
   pub each : (earlier : List Made) (t : Made) (later : List Made) → run ≡ earlier ++ (t ∷ later) → DrawClaim b earlier t
-  -- drawn plus what the unused numbers hold is the planned sum: for any places, so for every cell, row and column
+  -- drawn plus what the unused numbers hold is the planned sum: for any places, so for every entry
   pub balance : (s : List ℕ) → drawn p run s + unused p run s ≡ total (p .cells) s
-  -- with m accepted, drawn lies between m times the expected count rounded down and m times that rounded up, for each entry that a plan is held to
+  -- with m accepted, drawn lies between m times the expected count rounded down and m times that rounded up, for each entry that a plan is held to: every cell,
+  -- row and column, and the grand total
   pub bounds : (s : List ℕ) → Member s (heldTo (p .rows) (p .columns))
       → (accepted run * down (p .denominator) (total (p .cells) s) ≤ drawn p run s)
       × (drawn p run s ≤ accepted run * up (p .denominator) (total (p .cells) s))

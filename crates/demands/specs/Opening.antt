@@ -18,7 +18,7 @@ pub record PlanConditions (p : Plan) : Type 0 where
   -- no weight is 0, and the weights make up D
   pub some-weight : (a : Weighted) → Member a (p .arrays) → 1 ≤ a .weight
   pub weights : sum (map (λ a. a .weight) (p .arrays)) ≡ p .denominator
-  -- every array keeps each cell, row total and column total at the table's over D, rounded down or up, and whole ones as they are
+  -- every array keeps each cell, row total and column total and the grand total at the table's over D, rounded down or up, and whole ones as they are
   pub rounded : (a : Weighted) → Member a (p .arrays) → (s : List ℕ) → Member s (heldTo (p .rows) (p .columns))
       → roundsTo (p .denominator) (total (p .cells) s) (total (a .counts) s) ≡ true
   -- the weighted counts make up each cell of the table

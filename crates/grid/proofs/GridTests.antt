@@ -36,7 +36,7 @@ module _ {r c : ℕ} {g : List ℕ} (s : Shape r c g) (f : List ℕ → Bool) wh
   pub entries-grid : all f (entryPlaces r c) ≡ true → f [] ≡ true → (p q : ℕ) → p < 13 → q < 13 → f (gridPlaces r c p q) ≡ true
   entries-grid h none p q hp hq =
       let e = entries-each r c f h in
-      grid-each r c (λ x. f x ≡ true) none (e .0 .cells) (e .0 .rows) (e .0 .columns) (e .1) p q
+      grid-each r c (λ x. f x ≡ true) none (e .cells) (e .rows) (e .columns) (e .grand) p q
 
   pub grid-entries : ((p q : ℕ) → p < 13 → q < 13 → f (gridPlaces r c p q) ≡ true) → all f (entryPlaces r c) ≡ true
   grid-entries h = each-entries r c f
@@ -47,5 +47,5 @@ module _ {r c : ℕ} {g : List ℕ} (s : Shape r c g) (f : List ℕ → Bool) wh
             ∙ h (k / c) (k % c) (omega (arith, p .row-small)) (omega (arith, p .column-small));
         rows = λ i l. sym (ap f (grid-row r c i 12 (omega (arith, s .rows)) l (omega arith))) ∙ h i 12 (omega (arith, s .rows)) (omega arith);
         columns = λ j l. sym (ap f (grid-column r c 12 j (omega arith) (omega (arith, s .columns)) l)) ∙ h 12 j (omega arith) (omega (arith, s .columns));
+        grand = sym (ap f (grid-grand r c 12 12 (omega arith) (omega arith))) ∙ h 12 12 (omega arith) (omega arith);
       })
-      (sym (ap f (grid-grand r c 12 12 (omega arith) (omega arith))) ∙ h 12 12 (omega arith) (omega arith))

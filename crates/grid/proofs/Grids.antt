@@ -5,7 +5,7 @@ use Prim.Native.Nat.{ℕ, _*_, _/_, _%_, _<_}
 use native.Mathlib.Omega.{arith}
 use lib.ListN.{getD}
 use Rattle.base.proofs.Lists.{tabulate-ext, map-tabulate}
-use Rattle.table.specs.Table.{total, cellPlaces, rowPlaces, columnPlaces, allPlaces, lines, entryPlaces, entries}
+use Rattle.table.specs.Table.{total, cellPlaces, rowPlaces, columnPlaces, allPlaces, entryPlaces, entries}
 use Rattle.table.specs.Shape.{Shape}
 use Rattle.table.proofs.Sizes.{place-of}
 use Rattle.grid.specs.Grid.{gridPlaces, gridAt, gridPlace, gridOf, gridOrder}
@@ -33,7 +33,7 @@ module _ {r c : ℕ} {g : List ℕ} (s : Shape r c g) where
 
   -- the entries in their order are what stands at the places of `gridOrder`
   pub order-entries : entries r c g ≡ map (λ k. getD (gridOf r c g) k 0) (gridOrder r c)
-  unfolding entries entryPlaces lines gridOrder
+  unfolding entries entryPlaces gridOrder
   order-entries =
       let cells = tabulate-ext (r * c) (λ k. total g (cellPlaces k)) (λ k. value (gridPlace (k / c) (k % c))) cell in
       let rows = tabulate-ext r (λ i. total g (rowPlaces c i)) (λ i. value (gridPlace i 12)) row in

@@ -28,5 +28,4 @@ gridOf r c g = tabulate 169 (λ k. gridAt r c g (k / 13) (k % 13))
 unfoldable pub gridOrder : ℕ → ℕ → List ℕ
 gridOrder r c =
     tabulate (r * c) (λ k. gridPlace (k / c) (k % c))
-    ++ (tabulate r (λ i. gridPlace i 12) ++ tabulate c (λ j. gridPlace 12 j))
-    ++ (gridPlace 12 12 ∷ [])
+    ++ (tabulate r (λ i. gridPlace i 12) ++ (tabulate c (λ j. gridPlace 12 j) ++ (gridPlace 12 12 ∷ [])))

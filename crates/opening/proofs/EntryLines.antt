@@ -1,33 +1,32 @@
 -- The entries that an array is held to, kind by kind, and the loops over them. Assumes nothing.
 use mathlib.Core.Path.{_≡_, refl, sym, ap, _∙_}
-use mathlib.Core.Bool.{Bool, true, false, cond, not, _&&_}
-use mathlib.Core.List.{List, [], _++_}
+use mathlib.Core.Bool.{Bool, true, false, cond, not}
+use mathlib.Core.List.{List, []}
 use Prim.Native.Nat.{ℕ, _+_, _-_, _*_, _<_, _≤_}
-use native.Mathlib.Nat.{zero-add, mul-one, mul-le-mul, mul-le-mul-right, le-trans, div-le-of-le-mul}
+use native.Mathlib.Nat.{zero-add, add-zero, mul-one, mul-le-mul, mul-le-mul-right, le-trans, div-le-of-le-mul}
 use native.Mathlib.Omega.{arith}
-use lib.ListN.{length, getD, set, length-append, List·getD-append}
-use lib.Seq.{getD-append-add}
+use lib.ListN.{length, getD, set}
 use lib.Dec.{eqb}
 use mir.Val.{Fits}
 use mir.Syntax.{w32, w64}
 use borrow.Author.Tests.{le-leb, lt-leb, not-true, not-false}
-use Rattle.base.specs.Lists.{tabulate, every}
+use Rattle.base.specs.Lists.{every}
 use Rattle.base.specs.Fill.{Filled}
-use Rattle.base.proofs.Lists.{length-tabulate, getD-tabulate}
 use Rattle.base.proofs.SumLoops.{Summed, summed-none, summed-more, summed-all}
 use Rattle.base.proofs.Every.{sum-none, every-add, every-ext, every-intro}
 use Rattle.base.proofs.Filling.{filled-none, filled-more, filled-to, filled-join}
-use Rattle.table.specs.Table.{total, cellPlaces, rowPlaces, columnPlaces, lines}
+use Rattle.table.specs.Table.{total}
 use Rattle.table.specs.Whole.{down, gap, up}
 use Rattle.table.specs.Divide.{Divides}
 use Rattle.table.specs.Shape.{Shape, Reach}
 use Rattle.table.specs.declared.whole.Divided.{Divided}
-use Rattle.table.proofs.Totals.{reach-row, reach-column, reach-one}
+use Rattle.table.proofs.EntryPlaces.{entries-length, cell-at, row-at, column-at, grand-at}
+use Rattle.table.proofs.Totals.{reach-row, reach-column, reach-one, reach-all}
 use Rattle.table.proofs.EntryBounds.{total-at-most}
 use Rattle.table.proofs.Roundings.{gap-le}
 use Rattle.opening.specs.declared.lines.Lines.{Lines}
 use Rattle.opening.specs.Open.{heldTo}
-use Rattle.opening.specs.Lines.{linePlaces, cellLines, rowLines, columnLines, Placed, Cells, Room, BoundsFrom, entryOf, Bounds, between, oneOutside, linesBetween, entriesBetween}
+use Rattle.opening.specs.Lines.{linePlaces, cellLines, rowLines, columnLines, grandLines, Placed, Cells, Room, BoundsFrom, entryOf, Bounds, between, oneOutside, linesBetween, entriesBetween}
 
 -- the entries of a kind stand from a place on among those that an array is held to
 pub record Stands (r c : ℕ) (k : Lines) (from : ℕ) : Type 0 where
@@ -35,49 +34,17 @@ pub record Stands (r c : ℕ) (k : Lines) (from : ℕ) : Type 0 where
   pub inside : from + k .count ≤ length (heldTo r c)
 
 module _ (r c : ℕ) where
-  abbrev cellsPart : List (List ℕ)
-  cellsPart = tabulate (r * c) cellPlaces
-
-  abbrev rowsPart : List (List ℕ)
-  rowsPart = tabulate r (rowPlaces c)
-
-  abbrev columnsPart : List (List ℕ)
-  columnsPart = tabulate c (columnPlaces r c)
-
-  pub held-length : length (heldTo r c) ≡ r * c + r + c
-  unfolding lines
-  held-length =
-      simp length-append (omega (arith, length-tabulate (r * c) cellPlaces, length-tabulate r (rowPlaces c), length-tabulate c (columnPlaces r c)))
-
-  at-cell : (l : ℕ) → l < r * c → getD (heldTo r c) (0 + l) [] ≡ linePlaces (cellLines r c) l
-  unfolding lines
-  at-cell l h =
-      let z : 0 + l ≡ l = omega arith in
-      rw z (List·getD-append cellsPart _ [] l (rw (length-tabulate (r * c) cellPlaces) h))
-      ∙ getD-tabulate (r * c) cellPlaces l [] h ∙ ap cellPlaces (sym (mul-one l))
-
-  in-lines : (i : ℕ) → getD (heldTo r c) (r * c + i) [] ≡ getD (rowsPart ++ columnsPart) i []
-  unfolding lines
-  in-lines i = ap (λ (n : ℕ). getD (cellsPart ++ (rowsPart ++ columnsPart)) (n + i) []) (sym (length-tabulate (r * c) cellPlaces)) ∙ getD-append-add cellsPart _ i []
-
-  at-row : (l : ℕ) → l < r → getD (heldTo r c) (r * c + l) [] ≡ linePlaces (rowLines r c) l
-  at-row l h = in-lines l ∙ List·getD-append rowsPart columnsPart [] l (rw (length-tabulate r (rowPlaces c)) h) ∙ getD-tabulate r (rowPlaces c) l [] h
-
-  at-column : (l : ℕ) → l < c → getD (heldTo r c) (r * c + r + l) [] ≡ linePlaces (columnLines r c) l
-  at-column l h =
-      let e : r * c + r + l ≡ r * c + (r + l) = omega arith in
-      ap (λ (n : ℕ). getD (heldTo r c) n []) e ∙ in-lines (r + l)
-      ∙ ap (λ (n : ℕ). getD (rowsPart ++ columnsPart) (n + l) []) (sym (length-tabulate r (rowPlaces c))) ∙ getD-append-add rowsPart columnsPart l []
-      ∙ getD-tabulate c (columnPlaces r c) l [] h ∙ ap (columnPlaces r c) (sym (mul-one l))
-
   pub stands-cells : Stands r c (cellLines r c) 0
-  stands-cells = record { at = at-cell; inside = omega (arith, held-length) }
+  stands-cells = record { at = λ l h. rw (zero-add l, mul-one l) (cell-at r c l h); inside = omega (arith, entries-length r c) }
 
   pub stands-rows : Stands r c (rowLines r c) (r * c)
-  stands-rows = record { at = at-row; inside = omega (arith, held-length) }
+  stands-rows = record { at = row-at r c; inside = omega (arith, entries-length r c) }
 
   pub stands-columns : Stands r c (columnLines r c) (r * c + r)
-  stands-columns = record { at = at-column; inside = omega (arith, held-length) }
+  stands-columns = record { at = λ l h. rw (mul-one l) (column-at r c l h); inside = omega (arith, entries-length r c) }
+
+  pub stands-grand : Stands r c (grandLines r c) (r * c + r + c)
+  stands-grand = record { at = λ l h. let z : l ≡ 0 = omega arith in rw (z, add-zero (r * c + r + c)) (grand-at r c); inside = omega (arith, entries-length r c) }
 
 -- each kind lies among the cells
 module _ {r c : ℕ} {g : List ℕ} (s : Shape r c g) where
@@ -107,6 +74,21 @@ module _ {r c : ℕ} {g : List ℕ} (s : Shape r c g) where
     room = omega (arith, few, s .rows, s .columns);
     reach = λ l h. rw (mul-one l) (reach-column s l h);
   }
+
+  pub placed-grand : Placed (grandLines r c) (r * c + r + c) (length g)
+  placed-grand = record {
+    few = omega arith;
+    stride-small = omega arith;
+    room = omega (arith, few, s .rows, s .columns);
+    reach = λ l h. let z : l ≡ 0 = omega arith in rw z (reach-all s);
+  }
+
+  -- where the last two kinds begin
+  pub columns-from : Fits w64 (r * c + r)
+  columns-from = record { fits = omega (arith, few, s .rows) }
+
+  pub grand-from : Fits w64 (r * c + r + c)
+  grand-from = record { fits = omega (arith, few, s .rows, s .columns) }
 
 -- a line of a kind
 module _ {k : Lines} {from n l : ℕ} (p : Placed k from n) (h : l < k .count) where

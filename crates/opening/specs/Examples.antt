@@ -23,7 +23,8 @@ threeOnes =
     ∷ 0 ∷ 0
     ∷ 1 ∷ 0 ∷ []
 
--- two by two, D 2: every row and column keeps its bounds, and the grand total is 0 in one array and 2 in the other
+-- a university's plan, D 2, cells 1 0 0 1: every cell, row and column keeps its bounds, and the grand total is 0 in one array and 2 in the other where 1
+-- is planned
 abbrev pub swinging : List ℕ
 swinging =
     1 ∷ 0 ∷ 2 ∷ 2 ∷ 2 ∷ 0 ∷ 0 ∷ 0
@@ -33,6 +34,17 @@ swinging =
     ∷ 1 ∷ 0 ∷ 0 ∷ 0 ∷ 0 ∷ 0 ∷ 0 ∷ 0 ∷ 0 ∷ 0 ∷ 0 ∷ 0 ∷ 1 ∷ 0 ∷ 0 ∷ 0
     ∷ 0 ∷ 0 ∷ 0 ∷ 0 ∷ 0 ∷ 0 ∷ 0 ∷ 0
     ∷ 1 ∷ 0 ∷ 0 ∷ 0 ∷ 0 ∷ 0 ∷ 1 ∷ 0 ∷ []
+
+-- D 2, cells 1 1 1 0: the grand total, 3 over 2, is 1 in one array and 2 in the other
+abbrev pub grandVaries : List ℕ
+grandVaries =
+    1 ∷ 0 ∷ 2 ∷ 2 ∷ 2 ∷ 0 ∷ 0 ∷ 0
+    ∷ 2 ∷ 0 ∷ 0 ∷ 0 ∷ 32 ∷ 0 ∷ 0 ∷ 0
+    ∷ 1 ∷ 0 ∷ 0 ∷ 0 ∷ 48 ∷ 0 ∷ 0 ∷ 0
+    ∷ 1 ∷ 0 ∷ 0 ∷ 0 ∷ 56 ∷ 0 ∷ 0 ∷ 0
+    ∷ 1 ∷ 0 ∷ 0 ∷ 0 ∷ 1 ∷ 0 ∷ 0 ∷ 0 ∷ 1 ∷ 0 ∷ 0 ∷ 0 ∷ 0 ∷ 0 ∷ 0 ∷ 0
+    ∷ 1 ∷ 0 ∷ 0 ∷ 0 ∷ 0 ∷ 0 ∷ 0 ∷ 0
+    ∷ 0 ∷ 0 ∷ 1 ∷ 0 ∷ 1 ∷ 0 ∷ 0 ∷ 0 ∷ []
 
 -- D 2, all cells 2: the cells vary though each is whole, rows and columns do not
 abbrev pub cellsVary : List ℕ
@@ -109,8 +121,8 @@ cases =
     ∷ gives recurring 0
     ∷ gives (oneCell 1 1 1 1) 0
     ∷ gives threeOnes 0
-    -- the grand total of an array is not tested
-    ∷ gives swinging 0
+    -- a grand total that is not whole is rounded down in one array and up in another
+    ∷ gives grandVaries 0
     -- form, zero field, r, c, K, offsets of the table and of an array, a byte more, a byte less
     ∷ gives (set square 0 2) 5
     ∷ gives (set square 1 1) 5
@@ -150,6 +162,10 @@ cases =
     ∷ gives cellsVary 6
     ∷ gives rowsVary 6
     ∷ gives columnsVary 6
+    -- only the grand total is wrong: 0 and 2 where 1 is planned, 2 where 2 over 4 is, 0 where 6 over 4 is
+    ∷ gives swinging 6
+    ∷ gives (set (set swinging 8 4) 16 3) 6
+    ∷ gives (set (set (set (set swinging 8 4) 24 3) 32 3) 44 3) 6
     -- counts times weights that do not add up to the table
     ∷ gives (oneCell 2 1 2 0) 6
     -- 5 and 6 both apply

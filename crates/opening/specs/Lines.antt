@@ -22,7 +22,7 @@ pub record Sides (r c : ℕ) : Type 0 where
   pub rows : r ≤ maxRows
   pub columns : c ≤ maxColumns
 
--- the three kinds
+-- the four kinds
 abbrev pub cellLines : ℕ → ℕ → Lines
 cellLines r c = record { count = r * c; stride = 1; step = 1; number = 1 }
 
@@ -31,6 +31,9 @@ rowLines r c = record { count = r; stride = c; step = 1; number = c }
 
 abbrev pub columnLines : ℕ → ℕ → Lines
 columnLines r c = record { count = c; stride = 1; step = c; number = r }
+
+abbrev pub grandLines : ℕ → ℕ → Lines
+grandLines r c = record { count = 1; stride = 1; step = 1; number = r * c }
 
 -- the entries of a kind are sums of some of n cells, and there is room for them from a place on among all entries
 pub record Placed (k : Lines) (from n : ℕ) : Type 0 where

@@ -7,7 +7,7 @@ use Prim.Native.Nat.{ℕ, _*_, _<_, _≤_}
 use lib.ListN.{length, getD}
 use lib.Dec.{leb, ltb, eqb}
 use Rattle.base.specs.Lists.{sum, all, every}
-use Rattle.table.specs.Table.{lines, total}
+use Rattle.table.specs.Table.{entryPlaces, total}
 use Rattle.table.specs.Whole.{roundsTo}
 use Rattle.table.specs.Check.{cellsWithin}
 use Rattle.refusals.specs.Numbers.{numberOf}
@@ -20,9 +20,10 @@ use Rattle.form.specs.declared.Sizes.{Sizes}
 use Rattle.form.specs.Plan.{Weighted, Plan, arrayFor}
 use Rattle.form.specs.Form.{rowsOf, columnsOf, denominatorOf, sizesOf, laidOut, decode}
 
--- the entries that the arrays of an opened plan are held to: each cell, row total and column total is the table's over D, rounded down or up
+-- the entries that the arrays of an opened plan are held to, and these are all: every cell, row total and column total and the grand total is the table's
+-- over D, rounded down or up
 abbrev pub heldTo : ℕ → ℕ → List (List ℕ)
-heldTo r c = lines r c
+heldTo r c = entryPlaces r c
 
 abbrev pub held : Plan → Weighted → Bool
 held p a = all (λ s. roundsTo (p .denominator) (total (p .cells) s) (total (a .counts) s)) (heldTo (p .rows) (p .columns))

@@ -3,7 +3,7 @@ ghost use mathlib.Core.Path.{_≡_};
 ghost use lib.ListN.{length};
 ghost use Rattle.table.specs.Table.{places, total};
 ghost use Rattle.table.specs.Shape.{Reach};
-ghost use Rattle.opening.specs.Lines.{linePlaces, Sides, cellLines, rowLines, columnLines, BoundsReady, KindReady, BoundsFrom, Bounds, oneOutside, linesBetween, entriesBetween, KindHeld, Counts};
+ghost use Rattle.opening.specs.Lines.{linePlaces, Sides, cellLines, rowLines, columnLines, grandLines, BoundsReady, KindReady, BoundsFrom, Bounds, oneOutside, linesBetween, entriesBetween, KindHeld, Counts};
 use base::convert::u8_to_u64;
 use base::convert::u16_to_u32;
 use base::convert::u64_to_u32;
@@ -55,6 +55,19 @@ fn columns_of(rows: usize, columns: usize) -> Lines
     }
 }
 
+// The grand total.
+fn grand_of(rows: usize, columns: usize) -> Lines
+    requires { ⌜ Sides rows columns ⌝ }
+    ensures { λ r. ⌜ r ≡ grandLines rows columns ⌝ }
+{
+    Lines {
+        count: 1,
+        stride: 1,
+        step: 1,
+        number: rows * columns,
+    }
+}
+
 // The entries of one kind of the table, over the denominator rounded down and up, from a place on.
 fn line_bounds(
     cells: &[u32],
@@ -76,7 +89,7 @@ fn line_bounds(
     }
 }
 
-// The bounds of all entries that an array is held to: cells, row totals, column totals.
+// The bounds of all entries that an array is held to: cells, row totals, column totals, grand total.
 pub fn bounds(
     cells: &[u32],
     rows: usize,
@@ -95,6 +108,14 @@ pub fn bounds(
         cells,
         columns_of(rows, columns),
         n + rows,
+        denominator,
+        low,
+        high,
+    );
+    line_bounds(
+        cells,
+        grand_of(rows, columns),
+        n + rows + columns,
         denominator,
         low,
         high,
@@ -142,7 +163,7 @@ fn lines_between(counts: &[u16], k: Lines, from: usize, low: &[u32; 169], high: 
     failed == 0
 }
 
-// Whether each entry that an array is held to lies between its bounds: cells, row totals, column totals.
+// Whether each entry that an array is held to lies between its bounds: cells, row totals, column totals, grand total.
 pub fn held(
     counts: &[u16],
     rows: usize,
@@ -160,5 +181,14 @@ pub fn held(
     if !lines_between(counts, rows_of(rows, columns), n, low, high) {
         return false;
     }
-    lines_between(counts, columns_of(rows, columns), n + rows, low, high)
+    if !lines_between(counts, columns_of(rows, columns), n + rows, low, high) {
+        return false;
+    }
+    lines_between(
+        counts,
+        grand_of(rows, columns),
+        n + rows + columns,
+        low,
+        high,
+    )
 }

@@ -2,7 +2,7 @@
 use mathlib.Core.Path.{_≡_, refl}
 use mathlib.Core.List.{map}
 use Rattle.base.specs.Lists.{tabulate, sum, all}
-use Rattle.table.specs.Table.{total, lines}
+use Rattle.table.specs.Table.{total, entryPlaces}
 use Rattle.table.specs.Whole.{whole, roundsTo}
 use Rattle.refusals.specs.Due.{due, answerOf, after}
 use Rattle.form.specs.Form.{number, decode, headRight, laidOut}
@@ -11,9 +11,9 @@ use Rattle.parts.specs.Parts.{partRefusal}
 use Rattle.parts.specs.Examples.{sizeCases, toldSizes, cellCases, toldCells, said}
 
 pub sizes-hold : map toldSizes sizeCases ≡ map said sizeCases
-unfolding partRefusal due answerOf after number headRight laidOut decode consistent tabulate sum all total lines whole roundsTo
+unfolding partRefusal due answerOf after number headRight laidOut decode consistent tabulate sum all total entryPlaces whole roundsTo
 sizes-hold = refl
 
 pub cells-hold : map toldCells cellCases ≡ map said cellCases
-unfolding partRefusal due answerOf after number headRight laidOut decode consistent tabulate sum all total lines whole roundsTo
+unfolding partRefusal due answerOf after number headRight laidOut decode consistent tabulate sum all total entryPlaces whole roundsTo
 cells-hold = refl

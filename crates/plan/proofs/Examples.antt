@@ -3,7 +3,7 @@ use mathlib.Core.Path.{_≡_, refl}
 use mathlib.Core.List.{map, zipWith}
 use Rattle.base.specs.Lists.{tabulate, sum, joinTo, least, all}
 use Rattle.refusals.specs.Due.{due, after}
-use Rattle.table.specs.Table.{total, entryPlaces, lines}
+use Rattle.table.specs.Table.{total, entryPlaces}
 use Rattle.table.specs.Whole.{whole, gap, roundsTo}
 use Rattle.order.specs.Order.{nthRow, nthColumn, rank}
 use Rattle.rounding.specs.Order.{inOrder, arrayOf, firstOf}
@@ -18,5 +18,5 @@ unfolding limitOf
 limits-hold = refl
 
 pub calls-hold : map planned calls ≡ map said calls
-unfolding planAnswer planRefusal planBytes due after encode head contentsEntry bytes joinTo planOf roundsFrom weightOf limitOf without tabulate sum least all total entryPlaces lines whole gap roundsTo nthRow nthColumn rank inOrder arrayOf firstOf isRounding firstRounding zipWith
+unfolding planAnswer planRefusal planBytes due after encode head contentsEntry bytes joinTo planOf roundsFrom weightOf limitOf without tabulate sum least all total entryPlaces whole gap roundsTo nthRow nthColumn rank inOrder arrayOf firstOf isRounding firstRounding zipWith
 calls-hold = refl

@@ -1,5 +1,5 @@
 -- What the loop over the rounds keeps. Assumes nothing.
-use mathlib.Core.Path.{_≡_, sym, ap, ap₂, subst, _∙_}
+use mathlib.Core.Path.{_≡_, sym, ap, subst, _∙_}
 use mathlib.Core.Bool.{true}
 use mathlib.Core.List.{List, [], _∷_, _++_}
 use Prim.Native.Nat.{ℕ, _+_, _-_, _*_, _/_, _%_, _≤_, _<_}
@@ -7,20 +7,20 @@ use native.Mathlib.Decide.{decLt}
 use native.Mathlib.Nat.{mul-le-mul, suc-mul}
 use native.Mathlib.Omega.{arith}
 use lib.Arith.{digits-lt}
-use lib.ListN.{length, getD, set, length-set, length-append, List·getD-append, List·getD-eq-default}
+use lib.ListN.{length, getD, set, length-set, List·getD-append, List·getD-eq-default}
 use lib.Seq.{getD-append-seam}
 use mir.Val.{Fits}
 use mir.Syntax.{w64}
 use Rattle.base.proofs.Sums.{list-length}
-use Rattle.base.specs.Lists.{tabulate}
-use Rattle.table.specs.Table.{maxArrays, total, cellPlaces, rowPlaces, columnPlaces, lines, entryPlaces, maxDenominator, maxEntry}
+use Rattle.table.specs.Table.{maxArrays, total, entryPlaces, maxDenominator, maxEntry}
 use Rattle.grid.specs.Grid.{gridPlaces, gridAt, gridOf}
 use Rattle.table.specs.Whole.{gap}
 use Rattle.table.specs.Shape.{Shape, IsTable}
 use Rattle.base.specs.Fill.{Filled}
-use Rattle.base.proofs.Lists.{length-tabulate, each-more}
+use Rattle.base.proofs.Lists.{each-more}
 use Rattle.grid.proofs.GridPlaces.{grid-entry, length-grid}
 use Rattle.grid.proofs.GridBounds.{grid-small}
+use Rattle.table.proofs.EntryPlaces.{entries-length}
 use Rattle.table.proofs.Roundings.{gap-le}
 use Rattle.table.proofs.Sizes.{few-cells, shape-of}
 use Rattle.rounding.specs.Rounding.{isRounding, firstRounding}
@@ -46,16 +46,6 @@ gathered-start {r} {c} {d} {g} e weights counts t a b is = record {
   weight-at = λ i h. absurd (omega arith);
   count-at = λ i j h l. absurd (omega arith);
 }
-
--- how many entries there are
-pub entries-length : (r c : ℕ) → length (entryPlaces r c) ≡ r * c + (r + c) + 1
-unfolding entryPlaces lines
-entries-length r c =
-    length-append (lines r c) _
-    ∙ ap (λ (x : ℕ). x + 1)
-    (length-append (tabulate (r * c) cellPlaces) _
-    ∙ ap₂ _+_ (length-tabulate (r * c) cellPlaces)
-    (length-append (tabulate r (rowPlaces c)) _ ∙ ap₂ _+_ (length-tabulate r (rowPlaces c)) (length-tabulate c (columnPlaces r c))))
 
 pub few-not-whole : {r c : ℕ} → r ≤ 12 → c ≤ 12 → (w : ℕ) (g : List ℕ) → notWhole r c w g ≤ 169
 unfolding notWhole

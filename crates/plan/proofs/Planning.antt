@@ -12,10 +12,10 @@ use borrow.Author.Tests.{le-leb, eq-eqb}
 use Rattle.base.proofs.Tabulated.{tabulate-getD}
 use Rattle.base.proofs.Sums.{list-ext}
 use Rattle.base.specs.Lists.{tabulate, sum, all}
-use Rattle.table.specs.Table.{total, cellPlaces, allPlaces, lines, entryPlaces}
-use Rattle.table.specs.Whole.{up, roundsTo}
+use Rattle.table.specs.Table.{total, cellPlaces}
+use Rattle.table.specs.Whole.{up}
 use Rattle.table.specs.Shape.{IsTable}
-use Rattle.base.proofs.Lists.{and-left, and-right, and-both, all-intro, all-elim, all-append, all-tabulate}
+use Rattle.base.proofs.Lists.{and-right, and-both, all-intro, all-elim, all-tabulate}
 use Rattle.table.proofs.Sizes.{place-of, shape-of}
 use Rattle.grid.proofs.GridSums.{cell-at}
 use Rattle.rounding.specs.Rounding.{isRounding}
@@ -134,16 +134,13 @@ module _ {r c d : ℕ} {g : List ℕ} (t : IsTable r c d g) {k : ℕ} {left : Li
   }
 
   -- the conditions of opening
-  lines-held : (x : Weighted) → isRounding r c d g (x .counts) ≡ true → held (planOf r c d g) x ≡ true
-  unfolding planOf isRounding entryPlaces
-  lines-held x h =
-      let e = and-right (eqb (length (x .counts)) (r * c)) _ h in
-      and-left (all (λ s. roundsTo d (total g s) (total (x .counts) s)) (lines r c)) _
-      (sym (all-append (λ s. roundsTo d (total g s) (total (x .counts) s)) (lines r c) (allPlaces r c ∷ [])) ∙ e)
+  rounding-held : (x : Weighted) → isRounding r c d g (x .counts) ≡ true → held (planOf r c d g) x ≡ true
+  unfolding planOf isRounding
+  rounding-held x h = and-right (eqb (length (x .counts)) (r * c)) _ h
 
   held-all : all (held (planOf r c d g)) (roundsFrom d r c d g) ≡ true
   held-all = all-intro (held (planOf r c d g)) (roundsFrom d r c d g) (record { weight = 0; counts = [] })
-      (λ i h. lines-held (arrayAt (roundsFrom d r c d g) i) (rounds-at i (omega (arith, count-is))))
+      (λ i h. rounding-held (arrayAt (roundsFrom d r c d g) i) (rounds-at i (omega (arith, count-is))))
 
   cells-met : (i : ℕ) → weighted (roundsFrom d r c d g) i ≡ getD g i 0
   cells-met i =

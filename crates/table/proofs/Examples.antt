@@ -3,7 +3,7 @@ use mathlib.Core.Path.{_≡_, refl}
 use mathlib.Core.List.{[], _∷_, map}
 use Rattle.base.specs.Lists.{tabulate, sum, all}
 use Rattle.refusals.specs.Due.{due}
-use Rattle.table.specs.Table.{lines, entryPlaces, total, entries}
+use Rattle.table.specs.Table.{entryPlaces, total, entries}
 use Rattle.table.specs.Whole.{whole, gap, roundsTo}
 use Rattle.table.specs.Check.{tableRefusal, checkOf}
 use Rattle.table.specs.Examples.{cases, checked, rounded, roundedOf}
@@ -13,7 +13,7 @@ unfolding checkOf tableRefusal due all
 checks-hold = refl
 
 pub entries-hold : entries 2 3 (1 ∷ 2 ∷ 3 ∷ 40 ∷ 50 ∷ 60 ∷ []) ≡ 1 ∷ 2 ∷ 3 ∷ 40 ∷ 50 ∷ 60 ∷ 6 ∷ 150 ∷ 41 ∷ 52 ∷ 63 ∷ 156 ∷ []
-unfolding entries entryPlaces lines total tabulate sum
+unfolding entries entryPlaces total tabulate sum
 entries-hold = refl
 
 pub rounded-hold : map (λ x. roundedOf (x .entry)) rounded ≡ rounded

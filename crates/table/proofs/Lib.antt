@@ -1,5 +1,6 @@
 pub mod Checks
 pub mod Totals
+pub mod EntryPlaces
 pub mod EntryTests
 pub mod EntryBounds
 pub mod Roundings

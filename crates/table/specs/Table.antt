@@ -49,13 +49,9 @@ columnPlaces r c j = places j c r
 abbrev pub allPlaces : ℕ → ℕ → List ℕ
 allPlaces r c = places 0 1 (r * c)
 
--- the places of each cell, row total and column total, without the grand total: an opened plan is held to these
-unfoldable pub lines : ℕ → ℕ → List (List ℕ)
-lines r c = tabulate (r * c) cellPlaces ++ (tabulate r (rowPlaces c) ++ tabulate c (columnPlaces r c))
-
 -- the entries in their order, cells, row totals, column totals, grand total, each by the places that it is the sum of
 unfoldable pub entryPlaces : ℕ → ℕ → List (List ℕ)
-entryPlaces r c = lines r c ++ (allPlaces r c ∷ [])
+entryPlaces r c = tabulate (r * c) cellPlaces ++ (tabulate r (rowPlaces c) ++ (tabulate c (columnPlaces r c) ++ (allPlaces r c ∷ [])))
 
 -- the sum of the cells at some places
 unfoldable pub total : List ℕ → List ℕ → ℕ

@@ -3,7 +3,6 @@ use mathlib.Core.Path.{_≡_, refl}
 use mathlib.Core.List.{map, zipWith}
 use Rattle.base.specs.Lists.{tabulate, sum, least, all}
 use Rattle.table.specs.Table.{total, entryPlaces}
-use Rattle.table.specs.Table as table
 use Rattle.table.specs.Whole.{whole, gap, roundsTo}
 use Rattle.refusals.specs.Due.{due}
 use Rattle.table.specs.Check.{tableRefusal}
@@ -23,5 +22,5 @@ unfolding decimal digits
 digits-are = refl
 
 pub printed : map (λ o. output (o .text)) outputs ≡ map (λ o. o .prints) outputs
-unfolding parse numbersFrom all decimal digits spaced line printedLines lineNumbers listing refused output tableRefusal due planOf roundsFrom weightOf limitOf without tabulate sum least total entryPlaces table.lines whole gap roundsTo nthRow nthColumn rank inOrder arrayOf firstOf isRounding firstRounding zipWith
+unfolding parse numbersFrom all decimal digits spaced line printedLines lineNumbers listing refused output tableRefusal due planOf roundsFrom weightOf limitOf without tabulate sum least total entryPlaces whole gap roundsTo nthRow nthColumn rank inOrder arrayOf firstOf isRounding firstRounding zipWith
 printed = refl

@@ -2,7 +2,7 @@
 use mathlib.Core.Path.{_≡_, refl}
 use mathlib.Core.List.{map}
 use Rattle.base.specs.Lists.{tabulate, sum, all}
-use Rattle.table.specs.Table.{total, lines}
+use Rattle.table.specs.Table.{total, entryPlaces}
 use Rattle.table.specs.Whole.{whole, roundsTo}
 use Rattle.refusals.specs.Due.{due}
 use Rattle.form.specs.Form.{number, decode, headRight, laidOut}
@@ -12,13 +12,13 @@ use Rattle.view.specs.View.{weightAnswer, countAnswer}
 use Rattle.view.specs.Examples.{summaries, summariesFound, weights, weightsFound, places, countFound}
 
 pub summaries-hold : summariesFound ≡ summaries
-unfolding openAnswer openRefusal due number headRight laidOut decode consistent tabulate sum all total lines whole roundsTo
+unfolding openAnswer openRefusal due number headRight laidOut decode consistent tabulate sum all total entryPlaces whole roundsTo
 summaries-hold = refl
 
 pub weights-hold : weightsFound ≡ weights
-unfolding weightAnswer foundWeight openAnswer openRefusal due number headRight laidOut decode consistent tabulate sum all total lines whole roundsTo
+unfolding weightAnswer foundWeight openAnswer openRefusal due number headRight laidOut decode consistent tabulate sum all total entryPlaces whole roundsTo
 weights-hold = refl
 
 pub counts-hold : map countFound places ≡ map (λ x. x .count) places
-unfolding countAnswer foundCount openAnswer openRefusal due number headRight laidOut decode consistent tabulate sum all total lines whole roundsTo
+unfolding countAnswer foundCount openAnswer openRefusal due number headRight laidOut decode consistent tabulate sum all total entryPlaces whole roundsTo
 counts-hold = refl

@@ -1,4 +1,5 @@
-use Rattle.opening.proofs.EntryLines.{held-length, stands-rows, stands-columns, placed-cells, placed-rows, placed-columns, bounds-length, kind-bounds, cells-bounds, bounds-of}
+use Rattle.table.proofs.EntryPlaces.{entries-length}
+use Rattle.opening.proofs.EntryLines.{stands-rows, stands-columns, stands-grand, placed-cells, placed-rows, placed-columns, placed-grand, columns-from, grand-from, bounds-length, kind-bounds, cells-bounds, bounds-of}
 use borrow.Author.Needs.{needs}
 use Rattle.opening.proofs.lines.bounds.Statement.{statement}
 use Rattle.opening.proofs.lines.bounds.Tie as tie
@@ -30,9 +31,50 @@ line-bounds-requires-3 c κs =
     let then = rw (rows .rows-of .ensures) at (second .line-bounds2 .ensures) in
     record { placed = rw (columns .columns-of .ensures) (placed-columns (pre .shape)); cells-are = pre .cells-are; room = bounds-length then (bounds-length left (pre .room)) }
 
+grand-of-requires : tie.Need-grand-of-requires
+grand-of-requires c κs =
+    let columns = c .before .before .before in
+    let rows = columns .before .before .before .before in
+    let cells = rows .before .before .before .before in
+    let pre = cells .before .before .pre in
+    record { rows = pre .shape .rows; columns = pre .shape .columns }
+
+add-line-bounds-2 : tie.Need-add-line-bounds-2
+add-line-bounds-2 c =
+    let columns = c .before .before .before .before in
+    let rows = columns .before .before .before .before in
+    let cells = rows .before .before .before .before in
+    let pre = cells .before .before .pre in
+    columns-from (pre .shape)
+
+add-line-bounds-3 : tie.Need-add-line-bounds-3
+add-line-bounds-3 c =
+    let columns = c .before .before .before .before in
+    let rows = columns .before .before .before .before in
+    let cells = rows .before .before .before .before in
+    let pre = cells .before .before .pre in
+    grand-from (pre .shape)
+
+line-bounds-requires-4 : tie.Need-line-bounds-requires-4
+line-bounds-requires-4 c κs =
+    let grand = c .before .before in
+    let third = grand .before in
+    let columns = third .before .before .before in
+    let second = columns .before in
+    let rows = second .before .before .before in
+    let first = rows .before in
+    let cells = first .before .before .before in
+    let pre = cells .before .before .pre in
+    let left = rw (cells .cells-of .ensures) at (first .line-bounds .ensures) in
+    let then = rw (rows .rows-of .ensures) at (second .line-bounds2 .ensures) in
+    let later = rw (columns .columns-of .ensures) at (third .line-bounds3 .ensures) in
+    record { placed = rw (grand .grand-of .ensures) (placed-grand (pre .shape)); cells-are = pre .cells-are; room = bounds-length later (bounds-length then (bounds-length left (pre .room))) }
+
 returns : tie.Need-returns
 returns c =
-    let columns = c .before .before .before in
+    let grand = c .before .before .before in
+    let third = grand .before in
+    let columns = third .before .before .before in
     let second = columns .before in
     let rows = second .before .before .before in
     let first = rows .before in
@@ -40,10 +82,12 @@ returns c =
     let pre = cells .before .before .pre in
     bounds-of
     (kind-bounds
+    (kind-bounds
     (kind-bounds (cells-bounds _ _ _ _ (rw (cells .cells-of .ensures) at (first .line-bounds .ensures)))
     (stands-rows _ _) (rw (rows .rows-of .ensures) at (second .line-bounds2 .ensures)))
-    (stands-columns _ _) (rw (columns .columns-of .ensures) at (c .line-bounds3 .ensures)))
-    (pre .room) (held-length _ _)
+    (stands-columns _ _) (rw (columns .columns-of .ensures) at (third .line-bounds3 .ensures)))
+    (stands-grand _ _) (rw (grand .grand-of .ensures) at (c .line-bounds4 .ensures)))
+    (pre .room) (entries-length _ _)
 
 pub bounds-spec : {M : Type 1} → statement M
 bounds-spec =
@@ -57,4 +101,8 @@ bounds-spec =
     (λ c κs. search needs)
     (λ c. search needs)
     line-bounds-requires-3
+    grand-of-requires
+    add-line-bounds-2
+    add-line-bounds-3
+    line-bounds-requires-4
     returns)

@@ -1,4 +1,5 @@
-use Rattle.opening.proofs.EntryLines.{held-length, stands-cells, stands-rows, stands-columns, placed-cells, placed-rows, placed-columns, kind-passes, kind-fails, kind-last, between-none, cells-pass}
+use Rattle.table.proofs.EntryPlaces.{entries-length}
+use Rattle.opening.proofs.EntryLines.{stands-cells, stands-rows, stands-columns, stands-grand, placed-cells, placed-rows, placed-columns, placed-grand, columns-from, grand-from, kind-passes, kind-fails, kind-last, between-none, cells-pass}
 use borrow.Author.Needs.{needs}
 use Rattle.opening.proofs.lines.held.Statement.{statement}
 use Rattle.opening.proofs.lines.held.Tie as tie
@@ -33,14 +34,41 @@ lines-between-requires-3 c κs =
 
 returns-3 : tie.Need-returns-3
 returns-3 c =
-    let tested = c .before .before in
+    let columns = c .before in
+    let tested = columns .before .before in
+    let rows = tested .before in
+    let cells = rows .before .before .before in
+    kind-fails
+    (kind-passes
+    (cells-pass _ _ _ _ _ (rw (cells .before .cells-of .ensures) at (cells .lines-between .ensures)) (rows .before .before .if1 .left))
+    (stands-rows _ _) (rw (rows .before .rows-of .ensures) at (rows .lines-between2 .ensures)) (tested .if2 .left))
+    (stands-columns _ _) (rw (columns .before .columns-of .ensures) at (columns .lines-between3 .ensures)) (c .if3 .taken)
+
+add-lines-between-2 : tie.Need-add-lines-between-2
+add-lines-between-2 c = search (needs, columns-from)
+
+add-lines-between-3 : tie.Need-add-lines-between-3
+add-lines-between-3 c = search (needs, grand-from)
+
+lines-between-requires-4 : tie.Need-lines-between-requires-4
+lines-between-requires-4 c κs =
+    let pre = c .before .before .before .before .before .before .before .before .before .before .before .pre in
+    record { placed = rw (c .grand-of .ensures) (placed-grand (pre .shape)); room = pre .room }
+
+returns-4 : tie.Need-returns-4
+returns-4 c =
+    let last = c .before .before in
+    let columns = last .before in
+    let tested = columns .before .before in
     let rows = tested .before in
     let cells = rows .before .before .before in
     kind-last
     (kind-passes
+    (kind-passes
     (cells-pass _ _ _ _ _ (rw (cells .before .cells-of .ensures) at (cells .lines-between .ensures)) (rows .before .before .if1 .left))
     (stands-rows _ _) (rw (rows .before .rows-of .ensures) at (rows .lines-between2 .ensures)) (tested .if2 .left))
-    (stands-columns _ _) (rw (c .before .columns-of .ensures) at (c .lines-between3 .ensures)) (held-length _ _)
+    (stands-columns _ _) (rw (columns .before .columns-of .ensures) at (columns .lines-between3 .ensures)) (last .if3 .left))
+    (stands-grand _ _) (rw (c .before .grand-of .ensures) at (c .lines-between4 .ensures)) (entries-length _ _)
 
 pub held-spec : {M : Type 1} → statement M
 held-spec =
@@ -56,4 +84,9 @@ held-spec =
     (λ c κs. search needs)
     (λ c. search needs)
     lines-between-requires-3
-    returns-3)
+    returns-3
+    (λ c κs. search needs)
+    add-lines-between-2
+    add-lines-between-3
+    lines-between-requires-4
+    returns-4)
