@@ -3,11 +3,11 @@
 mod literal;
 
 use compare::buffer::{enough, lengths_around, Buffer};
-use compare::cases::{Call, Calls, Difference, Kind, Named};
+use compare::cases::{require, Call, Calls, Difference, Kind, Named};
 use compare::damage::good_and_damaged;
-use compare::plans::{plan_of, random_opening_plan, random_plan_up_to};
+use compare::plans::{plan_of, random_opening_plan, random_plan_up_to, swing};
 use compare::records::{damage, Record};
-use reference::{bytes_of_bits, encode, number_of, Plan};
+use reference::{bytes_of_bits, encode, entries, number_of, Plan};
 use tables::{evenly_spread, Generator, GivenTable};
 
 pub const KINDS: &[Kind] = &[
@@ -20,6 +20,11 @@ pub const KINDS: &[Kind] = &[
         name: "campaign-runs",
         cases: 400,
         compare: runs,
+    },
+    Kind {
+        name: "campaign-foreign-runs",
+        cases: 400,
+        compare: foreign_runs,
     },
     Kind {
         name: "campaign-records",
@@ -132,18 +137,35 @@ fn starts(generator: &mut Generator, calls: &mut Calls) -> Result<(), Difference
     Ok(())
 }
 
-/// A campaign from its start over all numbers, with repeats, numbers that are too
-/// large and buffers that are too short in between.
+/// Campaigns on plans of random tables.
 fn runs(generator: &mut Generator, calls: &mut Calls) -> Result<(), Difference> {
     let plan = random_plan_up_to(generator, 5, 100);
+    run(generator, calls, &plan)
+}
+
+/// Campaigns on plans that nobody here has planned, of which only a grand total can be
+/// wrong.
+fn foreign_runs(generator: &mut Generator, calls: &mut Calls) -> Result<(), Difference> {
+    let mut plan = random_plan_up_to(generator, 5, 100);
+    for _ in 0..generator.between(1, 3) {
+        swing(generator, &mut plan);
+    }
+    run(generator, calls, &plan)
+}
+
+/// A campaign from its start over all numbers, with repeats, numbers that are too
+/// large and buffers that are too short in between.
+fn run(generator: &mut Generator, calls: &mut Calls, plan: &Plan) -> Result<(), Difference> {
     let size = plan.table.size();
     let bits = enough(generator, bytes_of_bits(plan.table.denominator));
     let tally = enough(generator, size);
     let start = Start {
-        plan: Buffer::holding(generator, &encode(&plan)),
+        plan: Buffer::holding(generator, &encode(plan)),
         record: Record::random(generator, bits, tally),
     };
-    let mut record = calls.compare(&start)?.after.record;
+    let started = calls.compare(&start)?;
+    let opens = started.answer == 0;
+    let mut record = started.after.record;
     for number in numbers_of_run(generator, plan.table.denominator) {
         let room = enough(generator, size);
         let short = generator.once_in(8).then(|| generator.place(size));
@@ -155,9 +177,26 @@ fn runs(generator: &mut Generator, calls: &mut Calls) -> Result<(), Difference> 
                 counts: Buffer::random(generator, room),
             };
             record = calls.compare(&draw)?.after.record;
+            require(!opens || keeps_bounds(plan, &record), || {
+                format!("{plan:?}\nafter {number}, out of bounds: {record:?}\n")
+            })?;
         }
     }
     Ok(())
+}
+
+/// Whether with m numbers taken each entry of the tally, the grand total among them, is
+/// from m times the expected count rounded down to m times that rounded up.
+fn keeps_bounds(plan: &Plan, record: &Record) -> bool {
+    let (table, taken) = (&plan.table, u64::from(record.taken));
+    let of_table = entries(table.rows, table.columns, &table.cells);
+    let tally = record.tally.lent()[..table.size()].iter();
+    let drawn: Vec<u64> = tally.map(|&sum| u64::from(sum)).collect();
+    let of_tally = entries(table.rows, table.columns, &drawn);
+    of_table.iter().zip(&of_tally).all(|(entry, drawn)| {
+        let (down, up) = (entry / table.denominator, entry.div_ceil(table.denominator));
+        (taken * down..=taken * up).contains(drawn)
+    })
 }
 
 /// Every number twice, and some that are too large, in a random order.

@@ -7,6 +7,7 @@ use compare::cases::{Call, Calls, Difference, Kind, Named};
 use compare::damage::{change_field, fields};
 use compare::plans::{
     exchange, merge, move_units, plan_of, random_plan, split, split_fully, split_off, stated_plan,
+    swing,
 };
 use reference::{encode, number_of, Plan, Table};
 use tables::papers::{self, Example};
@@ -22,6 +23,11 @@ pub const KINDS: &[Kind] = &[
         name: "open-foreign-plans",
         cases: 10_000,
         compare: foreign,
+    },
+    Kind {
+        name: "open-grand-totals",
+        cases: 10_000,
+        compare: grand_totals,
     },
     Kind {
         name: "open-bytes",
@@ -77,7 +83,11 @@ pub const NAMED: &[Named] = &[
     },
     Named {
         name: "open-grand-total-not-kept",
-        compare: |calls| stated(calls, papers::grand_total_not_kept(), 0),
+        compare: |calls| stated(calls, papers::grand_total_not_kept(), 6),
+    },
+    Named {
+        name: "open-grand-total-varies",
+        compare: |calls| stated(calls, papers::grand_total_varies(), 0),
     },
     Named {
         name: "open-literal",
@@ -127,6 +137,24 @@ fn foreign(generator: &mut Generator, calls: &mut Calls) -> Result<(), Differenc
             _ => split(generator, &mut plan),
         }
         compare_bytes(generator, calls, &encode(&plan))?;
+    }
+    Ok(())
+}
+
+/// Plans of which only a grand total can be wrong: they open just if each array's is the
+/// table's, rounded down or up.
+fn grand_totals(generator: &mut Generator, calls: &mut Calls) -> Result<(), Difference> {
+    let mut plan = random_plan(generator, 5);
+    for _ in 0..3 {
+        swing(generator, &mut plan);
+        let planned: u64 = plan.table.cells.iter().sum();
+        let down = planned / plan.table.denominator;
+        let up = planned.div_ceil(plan.table.denominator);
+        let kept = plan
+            .arrays
+            .iter()
+            .all(|array| (down..=up).contains(&array.counts.iter().sum()));
+        stated_bytes(calls, &encode(&plan), if kept { 0 } else { 6 })?;
     }
     Ok(())
 }

@@ -1,6 +1,6 @@
 //! Plans to be opened and drawn from: planned ones, and foreign ones made of them.
 
-use reference::{Array, Plan, Table};
+use reference::{entries, Array, Plan, Table};
 use tables::papers::{Example, WeightedArrays};
 use tables::{random_table, Generator, GivenTable};
 
@@ -98,13 +98,18 @@ pub fn merge(plan: &mut Plan) {
 fn two_of_equal_weight(generator: &mut Generator, plan: &mut Plan) -> (usize, usize) {
     let one = generator.place(plan.arrays.len());
     let other = generator.place(plan.arrays.len());
+    even_out(plan, one, other);
+    (one, other)
+}
+
+/// Splits the heavier of two arrays, so that both have the same weight.
+fn even_out(plan: &mut Plan, one: usize, other: usize) {
     let (weight, other_weight) = (plan.arrays[one].weight, plan.arrays[other].weight);
     let heavier = if weight < other_weight { other } else { one };
     let rest = weight.abs_diff(other_weight);
     if rest > 0 {
         split_off(plan, heavier, rest);
     }
-    (one, other)
 }
 
 /// Lets two arrays of equal weight exchange some counts. Every cell stays balanced
@@ -117,6 +122,42 @@ pub fn exchange(generator: &mut Generator, plan: &mut Plan) {
         plan.arrays[one].counts[cell] = plan.arrays[other].counts[cell];
         plan.arrays[other].counts[cell] = count;
     }
+}
+
+/// Lets two arrays of equal weight exchange the count of a cell that is one larger in
+/// the second, and so are its row total and its column total. Every cell stays balanced,
+/// and cells, rows and columns stay within their bounds; only grand totals may leave
+/// theirs. Without two such arrays nothing happens.
+pub fn swing(generator: &mut Generator, plan: &mut Plan) {
+    let found = swings(plan);
+    if found.is_empty() {
+        return;
+    }
+    let (one, other, cell) = generator.pick(&found);
+    even_out(plan, one, other);
+    plan.arrays[one].counts[cell] += 1;
+    plan.arrays[other].counts[cell] -= 1;
+}
+
+/// All choices of two arrays and a cell that `swing` asks for.
+fn swings(plan: &Plan) -> Vec<(usize, usize, usize)> {
+    let (rows, columns) = (plan.table.rows, plan.table.columns);
+    let entries_of = |array: &Array| entries(rows, columns, &array.counts);
+    let of_arrays: Vec<Vec<u64>> = plan.arrays.iter().map(entries_of).collect();
+    let is_larger = |one: usize, other: usize, cell: usize| {
+        let row = rows * columns + cell / columns;
+        let column = rows * columns + rows + cell % columns;
+        [cell, row, column]
+            .iter()
+            .all(|&entry| of_arrays[one][entry] + 1 == of_arrays[other][entry])
+    };
+    let arrays = 0..of_arrays.len();
+    arrays
+        .clone()
+        .flat_map(|one| arrays.clone().map(move |other| (one, other)))
+        .flat_map(|(one, other)| (0..rows * columns).map(move |cell| (one, other, cell)))
+        .filter(|&(one, other, cell)| is_larger(one, other, cell))
+        .collect()
 }
 
 /// Moves units between the corners of a rectangle of cells, in one array one way and

@@ -17,7 +17,7 @@ pub use parts::{cells, sizes};
 pub use plan::{plan, plan_of, Array, Plan};
 pub use pool::{least_common_multiple, pool};
 pub use refusal::{number_of, Refusal};
-pub use rounding::{first_rounding, is_controlled_rounding, round, rounds_to};
+pub use rounding::{first_rounding, is_controlled_rounding, round};
 pub use stored::{draw, encode, open, stored_length};
 pub use table::{entries, Table};
 pub use text::{print_plan, LONGEST_INPUT};

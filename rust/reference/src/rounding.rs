@@ -26,7 +26,7 @@ pub fn write_counts(array: &[u64], counts: &mut [u16]) {
 }
 
 /// Whether the count is the entry over the weight, rounded down or up.
-pub fn rounds_to(weight: u64, entry: u64, count: u64) -> bool {
+fn rounds_to(weight: u64, entry: u64, count: u64) -> bool {
     Range::of(weight, entry).contains(count)
 }
 

@@ -1,7 +1,7 @@
 //! Stored form 1, opening, and the plain draw.
 
 use crate::rounding::write_counts;
-use crate::{entries, rounds_to, Array, Plan, Refusal, Table};
+use crate::{is_controlled_rounding, Array, Plan, Refusal, Table};
 
 /// The bytes of head and of one entry of the contents.
 const HEAD: usize = 8;
@@ -136,17 +136,20 @@ fn conditions_hold(plan: &Plan) -> bool {
     plan.table.cells_within_bound()
         && plan.arrays.iter().all(|array| array.weight >= 1)
         && weights_sum == plan.table.denominator
-        && plan.arrays.iter().all(|array| fits(&plan.table, array))
+        && plan.arrays.iter().all(|array| rounds(array, &plan.table))
         && (0..plan.table.size()).all(|cell| is_balanced(plan, cell))
 }
 
-/// Whether cells, row totals and column totals of the array round those of the
-/// table. The grand total, which comes last, is not asked for.
-fn fits(table: &Table, array: &Array) -> bool {
-    let of_table = entries(table.rows, table.columns, &table.cells);
-    let of_array = entries(table.rows, table.columns, &array.counts);
-    let grand_total = of_table.len() - 1;
-    (0..grand_total).all(|entry| rounds_to(table.denominator, of_table[entry], of_array[entry]))
+/// Whether the array is a controlled rounding of the table: its cells, row totals and
+/// column totals and its grand total are the table's, rounded down or up.
+fn rounds(array: &Array, table: &Table) -> bool {
+    is_controlled_rounding(
+        table.rows,
+        table.columns,
+        table.denominator,
+        &table.cells,
+        &array.counts,
+    )
 }
 
 /// Whether the counts of a cell times the weights add up to the table's cell.

@@ -113,11 +113,17 @@ pub fn problem_2_4() -> GivenTable {
     GivenTable::by_rows(1000, &rows)
 }
 
-/// Arrays whose grand totals are 0 and 2 where 1 is planned. They open, since
-/// opening does not ask for the grand total.
+/// The plan of 02, F-3: the grand totals of its arrays are 0 and 2 where 1 is planned.
+/// It does not open.
 pub fn grand_total_not_kept() -> Example {
     let arrays = [(1, [0, 0, 0, 0]), (1, [1, 0, 0, 1])];
     Example::new(GivenTable::by_rows(2, &[[1, 0], [0, 1]]), &arrays)
+}
+
+/// Arrays whose grand totals are 1 and 2 where 3 over 2 is planned. They open.
+pub fn grand_total_varies() -> Example {
+    let arrays = [(1, [1, 0, 0, 0]), (1, [0, 1, 1, 0])];
+    Example::new(GivenTable::by_rows(2, &[[1, 1], [1, 0]]), &arrays)
 }
 
 /// Weights that add up to one less than the denominator, though the cell is balanced.

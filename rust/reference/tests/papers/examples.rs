@@ -183,8 +183,14 @@ fn both_solutions_of_document_004_to_problem_2_1_open() {
 }
 
 #[test]
-fn arrays_that_do_not_keep_the_grand_total_open() {
-    assert_opens(stated_plan(papers::grand_total_not_kept()));
+fn arrays_that_do_not_keep_the_grand_total_do_not_open() {
+    let plan = stated_plan(papers::grand_total_not_kept());
+    assert_eq!(open(&encode(&plan)), Err(Refusal::Content));
+}
+
+#[test]
+fn a_grand_total_that_is_not_whole_may_vary() {
+    assert_opens(stated_plan(papers::grand_total_varies()));
 }
 
 #[test]

@@ -17,8 +17,8 @@ const THREE_ONES: &[u8] = &[
     1, 0,
 ];
 
-/// Two by two, D 2: every row and column keeps its bounds, and the grand total is 0 in
-/// one array and 2 in the other.
+/// The plan of 02, F-3, D 2, cells 1 0 0 1: every cell, row and column keeps its bounds,
+/// and the grand total is 0 in one array and 2 in the other where 1 is planned.
 #[rustfmt::skip]
 const SWINGING: &[u8] = &[
     1, 0, 2, 2, 2, 0, 0, 0,
@@ -28,6 +28,18 @@ const SWINGING: &[u8] = &[
     1, 0, 0, 0, 0, 0, 0, 0, 0, 0, 0, 0, 1, 0, 0, 0,
     0, 0, 0, 0, 0, 0, 0, 0,
     1, 0, 0, 0, 0, 0, 1, 0,
+];
+
+/// D 2, cells 1 1 1 0: the grand total, 3 over 2, is 1 in one array and 2 in the other.
+#[rustfmt::skip]
+pub(super) const GRAND_VARIES: &[u8] = &[
+    1, 0, 2, 2, 2, 0, 0, 0,
+    2, 0, 0, 0, 32, 0, 0, 0,
+    1, 0, 0, 0, 48, 0, 0, 0,
+    1, 0, 0, 0, 56, 0, 0, 0,
+    1, 0, 0, 0, 1, 0, 0, 0, 1, 0, 0, 0, 0, 0, 0, 0,
+    1, 0, 0, 0, 0, 0, 0, 0,
+    0, 0, 1, 0, 1, 0, 0, 0,
 ];
 
 /// D 2, all cells 2: the cells vary though each is whole, rows and columns do not.
@@ -135,8 +147,8 @@ pub fn cases() -> Vec<Case> {
         gives(RECURRING, 0),
         gives(one_cell(1, 1, 1, 1), 0),
         gives(THREE_ONES, 0),
-        // the grand total of an array is not tested
-        gives(SWINGING, 0),
+        // a grand total that is not whole is rounded down in one array and up in another
+        gives(GRAND_VARIES, 0),
         // form, zero field, r, c, K, offsets of the table and of an array, a byte more,
         // a byte less
         gives(changed(SQUARE, &[(0, 2)]), 5),
@@ -177,6 +189,11 @@ pub fn cases() -> Vec<Case> {
         gives(CELLS_VARY, 6),
         gives(ROWS_VARY, 6),
         gives(COLUMNS_VARY, 6),
+        // only the grand total is wrong: 0 and 2 where 1 is planned, 2 where 2 over 4 is,
+        // 0 where 6 over 4 is
+        gives(SWINGING, 6),
+        gives(changed(SWINGING, &[(8, 4), (16, 3)]), 6),
+        gives(changed(SWINGING, &[(8, 4), (24, 3), (32, 3), (44, 3)]), 6),
         // counts times weights that do not add up to the table
         gives(one_cell(2, 1, 2, 0), 6),
         // 5 and 6 both apply

@@ -2,6 +2,7 @@
 //! them (01, "Examples" and "What demand 3 speaks of").
 
 use super::campaign::{record, single, Record};
+use super::open::GRAND_VARIES;
 use super::stored::SQUARE;
 use super::FIVE;
 
@@ -35,7 +36,8 @@ pub struct Said {
     pub used: Vec<bool>,
     /// How many draws were accepted.
     pub accepted: u32,
-    /// What was drawn, and what the unused numbers hold, for each cell, row and column.
+    /// What was drawn, and what the unused numbers hold, for each cell, row and column
+    /// and the grand total.
     pub drawn: Vec<u32>,
     pub unused: Vec<u32>,
     /// The record at the end.
@@ -58,15 +60,16 @@ pub struct Run {
 }
 
 impl Run {
-    /// The sum of arrays, for each cell, row and column; what a buffer has beyond its
-    /// array does not count.
+    /// The sum of arrays, for each cell, row and column and the grand total; what a buffer
+    /// has beyond its array does not count.
     pub fn sums(&self, arrays: &[Vec<u16>]) -> Vec<u32> {
         let sum = |cell: usize| arrays.iter().map(|array| u32::from(array[cell])).sum();
         let cells: Vec<u32> = (0..self.rows * self.columns).map(sum).collect();
         let rows = cells.chunks(self.columns).map(|row| row.iter().sum());
         let in_column = |column| cells.iter().skip(column).step_by(self.columns);
         let columns = (0..self.columns).map(|column| in_column(column).sum());
-        cells.iter().copied().chain(rows).chain(columns).collect()
+        let totals = rows.chain(columns).chain([cells.iter().sum()]);
+        cells.iter().copied().chain(totals).collect()
     }
 }
 
@@ -81,8 +84,8 @@ pub fn runs() -> Vec<Run> {
                 answers: vec![],
                 used: vec![false, false],
                 accepted: 0,
-                drawn: vec![0, 0, 0, 0, 0, 0, 0, 0],
-                unused: vec![1, 1, 1, 1, 2, 2, 2, 2],
+                drawn: vec![0, 0, 0, 0, 0, 0, 0, 0, 0],
+                unused: vec![1, 1, 1, 1, 2, 2, 2, 2, 4],
                 last: record(0, &[0, 6], &[0, 0, 0, 0, 5]),
                 next: [0, 0, 8, 7],
             },
@@ -96,8 +99,8 @@ pub fn runs() -> Vec<Run> {
                 answers: vec![7, 0, 10, 8],
                 used: vec![true, false],
                 accepted: 1,
-                drawn: vec![0, 1, 1, 0, 1, 1, 1, 1],
-                unused: vec![1, 0, 0, 1, 1, 1, 1, 1],
+                drawn: vec![0, 1, 1, 0, 1, 1, 1, 1, 2],
+                unused: vec![1, 0, 0, 1, 1, 1, 1, 1, 2],
                 last: record(1, &[1, 6], &[0, 1, 1, 0, 5]),
                 next: [10, 0, 8, 7],
             },
@@ -111,10 +114,25 @@ pub fn runs() -> Vec<Run> {
                 answers: vec![0, 0],
                 used: vec![true, true],
                 accepted: 2,
-                drawn: vec![1, 1, 1, 1, 2, 2, 2, 2],
-                unused: vec![0, 0, 0, 0, 0, 0, 0, 0],
+                drawn: vec![1, 1, 1, 1, 2, 2, 2, 2, 4],
+                unused: vec![0, 0, 0, 0, 0, 0, 0, 0, 0],
                 last: record(2, &[3, 6], &[1, 1, 1, 1, 5]),
                 next: [10, 10, 8, 7],
+            },
+        },
+        Run {
+            plan: GRAND_VARIES.to_vec(),
+            rows: 2,
+            columns: 2,
+            asked: vec![ask(1)],
+            said: Said {
+                answers: vec![0],
+                used: vec![false, true],
+                accepted: 1,
+                drawn: vec![0, 1, 1, 0, 1, 1, 1, 1, 2],
+                unused: vec![1, 0, 0, 0, 1, 0, 1, 0, 1],
+                last: record(1, &[2, 6], &[0, 1, 1, 0, 5]),
+                next: [0, 10, 8, 7],
             },
         },
         Run {
@@ -126,8 +144,8 @@ pub fn runs() -> Vec<Run> {
                 answers: vec![0, 10, 8],
                 used: vec![true],
                 accepted: 1,
-                drawn: vec![1, 1, 1],
-                unused: vec![0, 0, 0],
+                drawn: vec![1, 1, 1, 1],
+                unused: vec![0, 0, 0, 0],
                 last: record(1, &[1, 6], &[1, 2, 3, 4, 5]),
                 next: [10, 8, 8, 7],
             },
