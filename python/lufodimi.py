@@ -117,7 +117,8 @@ def plan(rows: int, columns: int, denominator: int, cells: Iterable[int]) -> byt
 
 
 class Plan:
-    """An opened plan: its bytes `stored`, and its `rows`, `columns`, `arrays` (how many), `denominator` and `cells`. Refusals 5, 6."""
+    """An opened plan, whoever made it: its bytes `stored`, and its `rows`, `columns`, `arrays` (how many), `denominator` and `cells`. Refusals 5 and 6: it opens
+    if each array keeps every cell, row, column and the whole at its expectation rounded down or up, and weights and weighted arrays add up."""
 
     def __init__(self, stored: bytes):
         self.stored = memoryview(stored).tobytes()

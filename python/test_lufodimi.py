@@ -103,6 +103,15 @@ class Tests(unittest.TestCase):
         weight[16] -= 1  # the first array's weight: the weights then add up to one less than the denominator
         self.refused(6, lufodimi.Plan, weight)
 
+    def test_foreign_plans(self):
+        begin = "0100020202000000 0200000020000000 0100000030000000 0100000038000000"
+        # cells 1 0 0 1 over 2, arrays 0 0 0 0 and 1 0 0 1: no carton and two where one is planned
+        self.refused(6, lufodimi.Plan, bytes.fromhex(begin + "01000000000000000000000001000000 0000000000000000 0100000000000100"))
+        # cells 1 1 1 0, arrays 1 0 0 0 and 0 1 1 0: one carton and two where one and a half are planned
+        plan = lufodimi.Plan(bytes.fromhex(begin + "01000000010000000100000000000000 0100000000000000 0000010001000000"))
+        self.assertEqual((plan.denominator, plan.cells), (2, [1, 1, 1, 0]))
+        self.assertEqual([plan.draw(0), plan.draw(1)], [[1, 0, 0, 0], [0, 1, 1, 0]])
+
     def test_refusals_of_a_number(self):
         plan = lufodimi.Plan(lufodimi.plan(2, 2, 10, CELLS))
         self.refused(8, plan.draw, 10)

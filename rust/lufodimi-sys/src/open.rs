@@ -1,5 +1,8 @@
 extern "C" {
-    /// Opens a stored plan, whoever made it. It writes nothing. Refusals 5, 6.
+    /// Opens a stored plan, whoever made it. It opens if each array's cells, row totals,
+    /// column totals and grand total are the table's over the denominator, rounded down or
+    /// up, the weights add up to the denominator, and the weighted arrays to the table. It
+    /// writes nothing. Refusals 5, 6.
     ///
     /// # Safety
     ///

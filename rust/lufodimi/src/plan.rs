@@ -5,8 +5,8 @@ use alloc::vec::Vec;
 use lufodimi_sys::LUFODIMI_LONGEST_PLAN;
 
 /// A plan that opens: a table, and arrays of counts with weights that add up to the
-/// table's denominator. Every array keeps each cell, row and column at its expectation
-/// rounded down or up, and the weighted arrays add up to the table.
+/// table's denominator. Every array keeps each cell, row and column and the whole at its
+/// expectation rounded down or up, and the weighted arrays add up to the table.
 ///
 /// It owns its bytes, which are the stored form that every caller of the library shares.
 ///
@@ -57,10 +57,32 @@ impl Plan {
     /// # Ok::<(), Refusal>(())
     /// ```
     ///
+    /// Somebody else's plan has to keep what every plan keeps. In this one, with cells
+    /// 1 0, 0 1 over 2, every cell, row and column keeps its bounds, but one array has no
+    /// carton and the other two, where one is planned:
+    ///
+    /// ```
+    /// # use lufodimi::{Plan, Refusal};
+    /// # #[rustfmt::skip]
+    /// let stored = [
+    ///     1, 0, 2, 2, 2, 0, 0, 0, // form 1, two rows, two columns, two arrays
+    ///     2, 0, 0, 0, 32, 0, 0, 0, // the denominator, and where the table stands
+    ///     1, 0, 0, 0, 48, 0, 0, 0, // a weight, and where its array stands
+    ///     1, 0, 0, 0, 56, 0, 0, 0,
+    ///     1, 0, 0, 0, 0, 0, 0, 0, 0, 0, 0, 0, 1, 0, 0, 0, // the table
+    ///     0, 0, 0, 0, 0, 0, 0, 0, // the first array
+    ///     1, 0, 0, 0, 0, 0, 1, 0, // the second
+    /// ];
+    /// assert_eq!(Plan::open(stored), Err(Refusal::Content));
+    /// ```
+    ///
     /// # Errors
     ///
     /// [`Refusal::Layout`] if the bytes are not laid out as a stored plan, and
-    /// [`Refusal::Content`] if another condition of opening is not met.
+    /// [`Refusal::Content`] if another condition of opening is not met: a cell is above
+    /// 1000 times the denominator, a cell, row total, column total or grand total of an
+    /// array is not the table's rounded down or up, or weights or weighted arrays do not
+    /// add up.
     pub fn open(bytes: impl Into<Vec<u8>>) -> Result<Plan, Refusal> {
         let bytes = bytes.into();
         let mut sizes = [0; 4];

@@ -28,8 +28,9 @@ pub enum Refusal {
     LargeCell = 4,
     /// A stored plan whose form, zero field, sizes, offsets or length are wrong.
     Layout = 5,
-    /// A stored plan with a cell above 1000 times the denominator, or that does not meet
-    /// another condition of opening.
+    /// A stored plan with a cell above 1000 times the denominator, with an array of which
+    /// a cell, a row total, a column total or the grand total is not the table's rounded
+    /// down or up, or with weights or weighted arrays that do not add up.
     Content = 6,
     /// A lent buffer shorter than its result or record. This crate lends buffers that
     /// are long enough, and so never returns it.
