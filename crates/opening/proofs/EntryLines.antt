@@ -34,7 +34,7 @@ pub record Stands (r c : ℕ) (k : Lines) (from : ℕ) : Type 0 where
   pub inside : from + k .count ≤ length (heldTo r c)
 
 module _ (r c : ℕ) where
-  pub stands-cells : Stands r c (cellLines r c) 0
+  pub stands-cells : Stands r c (cellLines (r * c)) 0
   stands-cells = record { at = λ l h. rw (zero-add l, mul-one l) (cell-at r c l h); inside = omega (arith, entries-length r c) }
 
   pub stands-rows : Stands r c (rowLines r c) (r * c)
@@ -43,7 +43,7 @@ module _ (r c : ℕ) where
   pub stands-columns : Stands r c (columnLines r c) (r * c + r)
   stands-columns = record { at = λ l h. rw (mul-one l) (column-at r c l h); inside = omega (arith, entries-length r c) }
 
-  pub stands-grand : Stands r c (grandLines r c) (r * c + r + c)
+  pub stands-grand : Stands r c (grandLines (r * c)) (r * c + r + c)
   stands-grand = record { at = λ l h. let z : l ≡ 0 = omega arith in rw (z, add-zero (r * c + r + c)) (grand-at r c); inside = omega (arith, entries-length r c) }
 
 -- each kind lies among the cells
@@ -51,7 +51,7 @@ module _ {r c : ℕ} {g : List ℕ} (s : Shape r c g) where
   few : r * c ≤ 144
   few = mul-le-mul (s .rows) (s .columns)
 
-  pub placed-cells : Placed (cellLines r c) 0 (length g)
+  pub placed-cells : Placed (cellLines (r * c)) 0 (length g)
   placed-cells = record {
     few = few;
     stride-small = omega arith;
@@ -75,20 +75,13 @@ module _ {r c : ℕ} {g : List ℕ} (s : Shape r c g) where
     reach = λ l h. rw (mul-one l) (reach-column s l h);
   }
 
-  pub placed-grand : Placed (grandLines r c) (r * c + r + c) (length g)
+  pub placed-grand : Placed (grandLines (r * c)) (r * c + r + c) (length g)
   placed-grand = record {
     few = omega arith;
     stride-small = omega arith;
     room = omega (arith, few, s .rows, s .columns);
     reach = λ l h. let z : l ≡ 0 = omega arith in rw z (reach-all s);
   }
-
-  -- where the last two kinds begin
-  pub columns-from : Fits w64 (r * c + r)
-  columns-from = record { fits = omega (arith, few, s .rows) }
-
-  pub grand-from : Fits w64 (r * c + r + c)
-  grand-from = record { fits = omega (arith, few, s .rows, s .columns) }
 
 -- a line of a kind
 module _ {k : Lines} {from n l : ℕ} (p : Placed k from n) (h : l < k .count) where
@@ -175,7 +168,7 @@ module _ {r c d : ℕ} {g a₀ b₀ a b : List ℕ} {n : ℕ} (so-far : BoundsTo
     highs = λ e i. rw (zero-add e) at (so-far .are .highs .inside e (omega arith));
   }
 
-pub cells-bounds : (r c d : ℕ) (g : List ℕ) {a b a′ b′ : List ℕ} → BoundsFrom d (λ l. total g (linePlaces (cellLines r c) l)) 0 a b a′ b′ (r * c)
+pub cells-bounds : (r c d : ℕ) (g : List ℕ) {a b a′ b′ : List ℕ} → BoundsFrom d (λ l. total g (linePlaces (cellLines (r * c)) l)) 0 a b a′ b′ (r * c)
     → BoundsTo r c d g a b a′ b′ (r * c)
 cells-bounds r c d g {a} {b} q = rw (zero-add (r * c)) at (kind-bounds (record { are = bounds-none d (entryOf r c g) 0 a b }) (stands-cells r c) q)
 
@@ -263,5 +256,5 @@ module _ {r c : ℕ} {n low high : List ℕ} {from : ℕ} (so-far : BetweenTo r 
   unfolding entriesBetween
   kind-last all = sym (ap (λ (m : ℕ). every m (entryBetween r c n low high)) all ∙ kind-is)
 
-pub cells-pass : (r c : ℕ) (n low high : List ℕ) {x : Bool} → x ≡ linesBetween n low high (cellLines r c) 0 → not x ≡ false → BetweenTo r c n low high (r * c)
+pub cells-pass : (r c : ℕ) (n low high : List ℕ) {x : Bool} → x ≡ linesBetween n low high (cellLines (r * c)) 0 → not x ≡ false → BetweenTo r c n low high (r * c)
 cells-pass r c n low high e h = rw (zero-add (r * c)) at (kind-passes (between-none r c n low high) (stands-cells r c) e h)

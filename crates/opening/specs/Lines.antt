@@ -7,7 +7,7 @@ use lib.ListN.{length, getD}
 use lib.Dec.{leb}
 use Rattle.base.specs.Lists.{every}
 use Rattle.base.specs.Fill.{Filled}
-use Rattle.table.specs.Table.{maxRows, maxColumns, maxCells, maxEntries, maxDenominator, maxExpected, places, total}
+use Rattle.table.specs.Table.{maxColumns, maxCells, maxEntries, maxDenominator, maxExpected, places, total}
 use Rattle.table.specs.Whole.{down, up}
 use Rattle.table.specs.Shape.{Shape, Reach}
 use Rattle.opening.specs.declared.lines.Lines.{Lines}
@@ -17,14 +17,9 @@ use Rattle.opening.specs.Open.{heldTo}
 abbrev pub linePlaces : Lines → ℕ → List ℕ
 linePlaces k l = places (l * k .stride) (k .step) (k .number)
 
--- as many rows and columns as a table can have
-pub record Sides (r c : ℕ) : Type 0 where
-  pub rows : r ≤ maxRows
-  pub columns : c ≤ maxColumns
-
--- the four kinds
-abbrev pub cellLines : ℕ → ℕ → Lines
-cellLines r c = record { count = r * c; stride = 1; step = 1; number = 1 }
+-- the four kinds, of n cells in r rows and c columns
+abbrev pub cellLines : ℕ → Lines
+cellLines n = record { count = n; stride = 1; step = 1; number = 1 }
 
 abbrev pub rowLines : ℕ → ℕ → Lines
 rowLines r c = record { count = r; stride = c; step = 1; number = c }
@@ -32,8 +27,8 @@ rowLines r c = record { count = r; stride = c; step = 1; number = c }
 abbrev pub columnLines : ℕ → ℕ → Lines
 columnLines r c = record { count = c; stride = 1; step = c; number = r }
 
-abbrev pub grandLines : ℕ → ℕ → Lines
-grandLines r c = record { count = 1; stride = 1; step = 1; number = r * c }
+abbrev pub grandLines : ℕ → Lines
+grandLines n = record { count = 1; stride = 1; step = 1; number = n }
 
 -- the entries of a kind are sums of some of n cells, and there is room for them from a place on among all entries
 pub record Placed (k : Lines) (from n : ℕ) : Type 0 where

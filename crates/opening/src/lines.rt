@@ -3,7 +3,7 @@ ghost use mathlib.Core.Path.{_≡_};
 ghost use lib.ListN.{length};
 ghost use Rattle.table.specs.Table.{places, total};
 ghost use Rattle.table.specs.Shape.{Reach};
-ghost use Rattle.opening.specs.Lines.{linePlaces, Sides, cellLines, rowLines, columnLines, grandLines, BoundsReady, KindReady, BoundsFrom, Bounds, oneOutside, linesBetween, entriesBetween, KindHeld, Counts};
+ghost use Rattle.opening.specs.Lines.{linePlaces, cellLines, rowLines, columnLines, grandLines, BoundsReady, KindReady, BoundsFrom, Bounds, oneOutside, linesBetween, entriesBetween, KindHeld, Counts};
 use base::convert::u8_to_u64;
 use base::convert::u16_to_u32;
 use base::convert::u64_to_u32;
@@ -19,12 +19,11 @@ pub struct Lines {
 }
 
 // The cells, each the sum over one place.
-fn cells_of(rows: usize, columns: usize) -> Lines
-    requires { ⌜ Sides rows columns ⌝ }
-    ensures { λ r. ⌜ r ≡ cellLines rows columns ⌝ }
+fn cells_of(cells: usize) -> Lines
+    ensures { λ r. ⌜ r ≡ cellLines cells ⌝ }
 {
     Lines {
-        count: rows * columns,
+        count: cells,
         stride: 1,
         step: 1,
         number: 1,
@@ -55,16 +54,15 @@ fn columns_of(rows: usize, columns: usize) -> Lines
     }
 }
 
-// The grand total.
-fn grand_of(rows: usize, columns: usize) -> Lines
-    requires { ⌜ Sides rows columns ⌝ }
-    ensures { λ r. ⌜ r ≡ grandLines rows columns ⌝ }
+// The grand total, the sum over all places.
+fn grand_of(cells: usize) -> Lines
+    ensures { λ r. ⌜ r ≡ grandLines cells ⌝ }
 {
     Lines {
         count: 1,
         stride: 1,
         step: 1,
-        number: rows * columns,
+        number: cells,
     }
 }
 
@@ -102,24 +100,19 @@ pub fn bounds(
     ensures { λ _. ⌜ Bounds rows columns denominator (now (cells .entry)) (now (low .exit)) (now (high .exit)) ⌝ }
 {
     let n = rows * columns;
-    line_bounds(cells, cells_of(rows, columns), 0, denominator, low, high);
+    let columns_from = n + rows;
+    let grand_from = columns_from + columns;
+    line_bounds(cells, cells_of(n), 0, denominator, low, high);
     line_bounds(cells, rows_of(rows, columns), n, denominator, low, high);
     line_bounds(
         cells,
         columns_of(rows, columns),
-        n + rows,
+        columns_from,
         denominator,
         low,
         high,
     );
-    line_bounds(
-        cells,
-        grand_of(rows, columns),
-        n + rows + columns,
-        denominator,
-        low,
-        high,
-    );
+    line_bounds(cells, grand_of(n), grand_from, denominator, low, high);
 }
 
 // The sum of `number` counts from `start` on, `step` apart.
@@ -175,20 +168,16 @@ pub fn held(
     ensures { λ r. ⌜ r ≡ entriesBetween rows columns (now (counts .entry)) (now (low .entry)) (now (high .entry)) ⌝ }
 {
     let n = rows * columns;
-    if !lines_between(counts, cells_of(rows, columns), 0, low, high) {
+    let columns_from = n + rows;
+    let grand_from = columns_from + columns;
+    if !lines_between(counts, cells_of(n), 0, low, high) {
         return false;
     }
     if !lines_between(counts, rows_of(rows, columns), n, low, high) {
         return false;
     }
-    if !lines_between(counts, columns_of(rows, columns), n + rows, low, high) {
+    if !lines_between(counts, columns_of(rows, columns), columns_from, low, high) {
         return false;
     }
-    lines_between(
-        counts,
-        grand_of(rows, columns),
-        n + rows + columns,
-        low,
-        high,
-    )
+    lines_between(counts, grand_of(n), grand_from, low, high)
 }

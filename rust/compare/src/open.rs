@@ -86,10 +86,6 @@ pub const NAMED: &[Named] = &[
         compare: |calls| stated(calls, papers::grand_total_not_kept(), 6),
     },
     Named {
-        name: "open-grand-total-varies",
-        compare: |calls| stated(calls, papers::grand_total_varies(), 0),
-    },
-    Named {
         name: "open-literal",
         compare: literal::plans,
     },

@@ -45,18 +45,6 @@ fn bytes_are_refused_by_5_and_6() {
     assert_eq!(refusal(&heavy), Some(Refusal::Layout));
 }
 
-/// Cells 1 0, 0 1 over 2, with the arrays 0 0, 0 0 and 1 0, 0 1, weight 1 each.
-#[rustfmt::skip]
-const SWINGING: [u8; 64] = [
-    1, 0, 2, 2, 2, 0, 0, 0,
-    2, 0, 0, 0, 32, 0, 0, 0,
-    1, 0, 0, 0, 48, 0, 0, 0,
-    1, 0, 0, 0, 56, 0, 0, 0,
-    1, 0, 0, 0, 0, 0, 0, 0, 0, 0, 0, 0, 1, 0, 0, 0,
-    0, 0, 0, 0, 0, 0, 0, 0,
-    1, 0, 0, 0, 0, 0, 1, 0,
-];
-
 /// Cells 1 1, 1 0 over 2, with the arrays 1 0, 0 0 and 0 1, 1 0, weight 1 each.
 #[rustfmt::skip]
 const VARYING: [u8; 64] = [
@@ -70,8 +58,7 @@ const VARYING: [u8; 64] = [
 ];
 
 #[test]
-fn a_foreign_plan_opens_if_its_grand_totals_keep_their_bounds() {
-    assert_eq!(Plan::open(SWINGING), Err(Refusal::Content));
+fn a_foreign_plan_opens_whose_grand_total_is_rounded_down_and_up() {
     let plan = Plan::open(VARYING).expect("grand totals 1 and 2 where 3 over 2 is planned");
     assert_eq!(plan.cells(), [1, 1, 1, 0]);
     assert_eq!(plan.draw(0), Ok(vec![1, 0, 0, 0]));

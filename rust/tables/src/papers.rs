@@ -120,12 +120,6 @@ pub fn grand_total_not_kept() -> Example {
     Example::new(GivenTable::by_rows(2, &[[1, 0], [0, 1]]), &arrays)
 }
 
-/// Arrays whose grand totals are 1 and 2 where 3 over 2 is planned. They open.
-pub fn grand_total_varies() -> Example {
-    let arrays = [(1, [1, 0, 0, 0]), (1, [0, 1, 1, 0])];
-    Example::new(GivenTable::by_rows(2, &[[1, 1], [1, 0]]), &arrays)
-}
-
 /// Weights that add up to one less than the denominator, though the cell is balanced.
 pub fn weights_one_short() -> Example {
     Example::new(GivenTable::by_rows(3, &[[2]]), &[(2, [1])])

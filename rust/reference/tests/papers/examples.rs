@@ -189,11 +189,6 @@ fn arrays_that_do_not_keep_the_grand_total_do_not_open() {
 }
 
 #[test]
-fn a_grand_total_that_is_not_whole_may_vary() {
-    assert_opens(stated_plan(papers::grand_total_varies()));
-}
-
-#[test]
 fn equal_arrays_may_recur() {
     let mut plan = listed_plan();
     plan.arrays[2].weight = 1;

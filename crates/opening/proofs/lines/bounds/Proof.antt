@@ -1,5 +1,5 @@
 use Rattle.table.proofs.EntryPlaces.{entries-length}
-use Rattle.opening.proofs.EntryLines.{stands-rows, stands-columns, stands-grand, placed-cells, placed-rows, placed-columns, placed-grand, columns-from, grand-from, bounds-length, kind-bounds, cells-bounds, bounds-of}
+use Rattle.opening.proofs.EntryLines.{stands-rows, stands-columns, stands-grand, placed-cells, placed-rows, placed-columns, placed-grand, bounds-length, kind-bounds, cells-bounds, bounds-of}
 use borrow.Author.Needs.{needs}
 use Rattle.opening.proofs.lines.bounds.Statement.{statement}
 use Rattle.opening.proofs.lines.bounds.Tie as tie
@@ -30,30 +30,6 @@ line-bounds-requires-3 c κs =
     let left = rw (cells .cells-of .ensures) at (first .line-bounds .ensures) in
     let then = rw (rows .rows-of .ensures) at (second .line-bounds2 .ensures) in
     record { placed = rw (columns .columns-of .ensures) (placed-columns (pre .shape)); cells-are = pre .cells-are; room = bounds-length then (bounds-length left (pre .room)) }
-
-grand-of-requires : tie.Need-grand-of-requires
-grand-of-requires c κs =
-    let columns = c .before .before .before in
-    let rows = columns .before .before .before .before in
-    let cells = rows .before .before .before .before in
-    let pre = cells .before .before .pre in
-    record { rows = pre .shape .rows; columns = pre .shape .columns }
-
-add-line-bounds-2 : tie.Need-add-line-bounds-2
-add-line-bounds-2 c =
-    let columns = c .before .before .before .before in
-    let rows = columns .before .before .before .before in
-    let cells = rows .before .before .before .before in
-    let pre = cells .before .before .pre in
-    columns-from (pre .shape)
-
-add-line-bounds-3 : tie.Need-add-line-bounds-3
-add-line-bounds-3 c =
-    let columns = c .before .before .before .before in
-    let rows = columns .before .before .before .before in
-    let cells = rows .before .before .before .before in
-    let pre = cells .before .before .pre in
-    grand-from (pre .shape)
 
 line-bounds-requires-4 : tie.Need-line-bounds-requires-4
 line-bounds-requires-4 c κs =
@@ -94,15 +70,14 @@ bounds-spec =
     tie.close
     (tie.spec
     (λ c. search needs)
+    (λ c. search needs)
+    (λ c. search needs)
     (λ c κs. search needs)
     line-bounds-requires
     (λ c κs. search needs)
     line-bounds-requires-2
     (λ c κs. search needs)
-    (λ c. search needs)
     line-bounds-requires-3
-    grand-of-requires
-    add-line-bounds-2
-    add-line-bounds-3
+    (λ c κs. search needs)
     line-bounds-requires-4
     returns)

@@ -1,5 +1,5 @@
 use Rattle.table.proofs.EntryPlaces.{entries-length}
-use Rattle.opening.proofs.EntryLines.{stands-cells, stands-rows, stands-columns, stands-grand, placed-cells, placed-rows, placed-columns, placed-grand, columns-from, grand-from, kind-passes, kind-fails, kind-last, between-none, cells-pass}
+use Rattle.opening.proofs.EntryLines.{stands-cells, stands-rows, stands-columns, stands-grand, placed-cells, placed-rows, placed-columns, placed-grand, kind-passes, kind-fails, kind-last, between-none, cells-pass}
 use borrow.Author.Needs.{needs}
 use Rattle.opening.proofs.lines.held.Statement.{statement}
 use Rattle.opening.proofs.lines.held.Tie as tie
@@ -44,12 +44,6 @@ returns-3 c =
     (stands-rows _ _) (rw (rows .before .rows-of .ensures) at (rows .lines-between2 .ensures)) (tested .if2 .left))
     (stands-columns _ _) (rw (columns .before .columns-of .ensures) at (columns .lines-between3 .ensures)) (c .if3 .taken)
 
-add-lines-between-2 : tie.Need-add-lines-between-2
-add-lines-between-2 c = search (needs, columns-from)
-
-add-lines-between-3 : tie.Need-add-lines-between-3
-add-lines-between-3 c = search (needs, grand-from)
-
 lines-between-requires-4 : tie.Need-lines-between-requires-4
 lines-between-requires-4 c κs =
     let pre = c .before .before .before .before .before .before .before .before .before .before .before .pre in
@@ -75,6 +69,8 @@ held-spec =
     tie.close
     (tie.spec
     (λ c. search needs)
+    (λ c. search needs)
+    (λ c. search needs)
     (λ c κs. search needs)
     lines-between-requires
     returns
@@ -82,11 +78,8 @@ held-spec =
     lines-between-requires-2
     returns-2
     (λ c κs. search needs)
-    (λ c. search needs)
     lines-between-requires-3
     returns-3
     (λ c κs. search needs)
-    add-lines-between-2
-    add-lines-between-3
     lines-between-requires-4
     returns-4)
