@@ -34,7 +34,7 @@ use Rattle.opening.proofs.Opening.{is-open, is-refused, opens-layout, opens-by,
 use Rattle.campaign.specs.Record.{CampaignRecord, recordOf, bitOf, bitBytes, roomFor, spareClear, takenSum, fits, startTests, startRefusal, cleared, campaignRefusal, taking}
 use Rattle.campaign.specs.Calls.{started, ask, made, Starts, Draws}
 use Rattle.campaign.specs.Parts.{Unset, sizesOr, Addends, Fitted}
-use Rattle.campaign.proofs.Opened.{sound}
+use Rattle.opening.proofs.Sound.{sound}
 use Rattle.campaign.proofs.Long.{room-bits, room-tally}
 use Rattle.campaign.proofs.Numbers.{array-length, count-room, tally-room}
 

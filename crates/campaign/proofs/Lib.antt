@@ -1,6 +1,5 @@
 pub mod Bits
 pub mod Long
-pub mod Opened
 pub mod Numbers
 pub mod Examples
 pub mod Fitting

@@ -17,7 +17,7 @@ use Rattle.campaign.specs.Calls.{Made}
 use Rattle.demands.specs.Runs.{used, accepted, drawn, unused}
 use Rattle.demands.specs.Claim.{Claim}
 use Rattle.base.proofs.Tests.{test-times, test-parts, test-le}
-use Rattle.campaign.proofs.Opened.{Sound, sound}
+use Rattle.opening.proofs.Sound.{Sound, sound}
 use Rattle.campaign.proofs.Numbers.{array-entry, planned-sum}
 use Rattle.demands.proofs.Steps.{RunHolds, step-start}
 use Rattle.demands.proofs.Runs.{start-done, start-left, run-holds, run-each, run-asked}

@@ -23,7 +23,7 @@ use Rattle.campaign.specs.Record.{CampaignRecord, bitOf, roomFor, startTests, s
 use Rattle.campaign.specs.Calls.{started, Asked, Made, made}
 use Rattle.demands.specs.Runs.{draws, lastRecord, used}
 use Rattle.demands.specs.Claim.{DrawClaim}
-use Rattle.campaign.proofs.Opened.{sound}
+use Rattle.opening.proofs.Sound.{sound}
 use Rattle.campaign.proofs.Numbers.{array-length}
 use Rattle.demands.proofs.Steps.{RunHolds, fits-run, step-refused, step-accepted}
 

@@ -24,7 +24,7 @@ use Rattle.campaign.specs.Record.{CampaignRecord, bitOf, bitBytes, spareClear, 
 use Rattle.base.proofs.Tests.{test-times, test-or}
 use Rattle.base.proofs.Buffers.{written-at, written-length, written-beyond}
 use Rattle.campaign.proofs.Bits.{bit-set, bit-clear}
-use Rattle.campaign.proofs.Numbers.{total-one}
+use Rattle.table.proofs.Totals.{total-one}
 use Rattle.campaign.proofs.Long.{room-bits, room-tally}
 
 used-more : (h : List Made) (t : Made) (d : ℕ) → used (h ++ (t ∷ [])) d ≡ (used h d || isDone (t .answer) && eqb (t .asked .number) d)

@@ -84,16 +84,20 @@ module _ {f : ℕ → ℕ} {l : List Weighted} {n k : ℕ} {sums : List ℕ} (p 
     small = λ i q. let a : k * maxProduct ≤ 170 * maxProduct = mul-le-mul-right maxProduct m in omega (arith, p .small i (omega arith));
   }
 
-  pub sums-more : {factor : ℕ} {new : List ℕ} → Increased factor counts sums new → factor ≡ f k → counts ≡ arrayAt l k .counts → SumsTo f l n (k + 1) new
-  sums-more {factor} {new} i q c = record {
+  pub sums-more-at : {factor : ℕ} {new : List ℕ} → Increased factor counts sums new → factor ≡ f k
+      → ((j : ℕ) → j < n → getD counts j 0 ≡ getD (arrayAt l k .counts) j 0) → SumsTo f l n (k + 1) new
+  sums-more-at {factor} {new} i q c = record {
     len = i .filled .len ∙ p .len;
     is = λ j h.
         let z : 0 + j ≡ j = omega arith in
         let at : getD new j 0 ≡ getD sums j 0 + factor * getD counts j 0 = rw z at (i .filled .inside j (omega arith)) in
-        let product : factor * getD counts j 0 ≡ f k * getD (arrayAt l k .counts) j 0 = ap₂ _*_ q (ap (λ (m : List ℕ). getD m j 0) c) in
+        let product : factor * getD counts j 0 ≡ f k * getD (arrayAt l k .counts) j 0 = ap₂ _*_ q (c j h) in
         omega (arith, at, product, p .is j h, sum-more (λ m. f m * getD (arrayAt l m .counts) j 0) k);
     small = λ j h. omega (arith, i .small j (omega arith), p .small j h, add-mul k 1 maxProduct, one-mul maxProduct);
   }
+
+  pub sums-more : {factor : ℕ} {new : List ℕ} → Increased factor counts sums new → factor ≡ f k → counts ≡ arrayAt l k .counts → SumsTo f l n (k + 1) new
+  sums-more i q c = sums-more-at i q (λ j h. ap (λ (m : List ℕ). getD m j 0) c)
 
 -- the first i cells are their sums
 pub record CellsMetTo (cells sums : List ℕ) (i : ℕ) : Type 0 where

@@ -1,7 +1,6 @@
 -- What the calls that tell a plan's parts answer and write, by the tests on their way. Assumes nothing.
 use mathlib.Core.Path.{_≡_, refl, sym, _∙_}
 use mathlib.Core.List.{List, [], _∷_}
-use mathlib.Core.Option.{some, none}
 use Prim.Native.Nat.{ℕ, _*_, _<_, _≤_}
 use native.Mathlib.Omega.{arith}
 use lib.ListN.{length, set, length-set}
@@ -46,24 +45,24 @@ second-room {l = l} h a = omega (arith, h .room, length-set l 0 a)
 pub third-room : {s : Sizes} {l : List ℕ} → SizesReady s l → (a b : ℕ) → 2 < length (set (set l 0 a) 1 b)
 third-room {l = l} h a b = omega (arith, h .room, length-set l 0 a, length-set (set l 0 a) 1 b)
 
--- a call that needs n numbers of a buffer, by what is due
-module _ (b old : List ℕ) (n : ℕ) {o : Opened} (is : o ≡ openAnswer b) where
-  not-open : {new : List ℕ} {x : Refusal} → o ≡ opened.Refused x → Answers (partRefusal b n (length old)) new old (Refused x) old
+-- a call that needs n elements of a buffer of `room`, by what is due; `old` is what the buffer holds
+module _ {ℓ} {A : Type ℓ} (b : List ℕ) (old : A) (n room : ℕ) {o : Opened} (is : o ≡ openAnswer b) where
+  pub not-open : {new : A} {x : Refusal} → o ≡ opened.Refused x → Answers (partRefusal b n room) new old (Refused x) old
   unfolding partRefusal openRefusal
   not-open {x = x} e = refused-so (due-first (openTests b) _ x (is-refused b x (sym is ∙ e)))
 
   module _ {s : Sizes} (e : o ≡ opened.Plan s) where
-    buffer-by : partRefusal b n (length old) ≡ due (refuse Buffer (ltb (length old) n) ∷ [])
+    buffer-by : partRefusal b n room ≡ due (refuse Buffer (ltb room n) ∷ [])
     unfolding partRefusal openRefusal
     buffer-by = due-second (openTests b) _ (is-open b s (sym is ∙ e) .opens)
 
-    too-short : {new : List ℕ} → length old < n → Answers (partRefusal b n (length old)) new old (Refused Buffer) old
+    pub too-short : {new : A} → room < n → Answers (partRefusal b n room) new old (Refused Buffer) old
     unfolding due
-    too-short h = refused-so (buffer-by ∙ simp (lt-ltb (length old) n h))
+    too-short h = refused-so (buffer-by ∙ simp (lt-ltb room n h))
 
-    told : {new result : List ℕ} → n ≤ length old → result ≡ new → Answers (partRefusal b n (length old)) new old Done result
+    pub told : {new result : A} → n ≤ room → result ≡ new → Answers (partRefusal b n room) new old Done result
     unfolding due
-    told h w = accepted-so (buffer-by ∙ simp (le-ltb (length old) n h)) w
+    told h w = accepted-so (buffer-by ∙ simp (le-ltb room n h)) w
 
 module _ (b old : List ℕ) {o : Opened} (is : o ≡ openAnswer b) where
   abbrev SizesAnswer : Answer → List ℕ → Type 0
@@ -73,10 +72,10 @@ module _ (b old : List ℕ) {o : Opened} (is : o ≡ openAnswer b) where
   CellsAnswer r new = Answers (partRefusal b (cellCount (decode b)) (length old)) (written (decode b .cells) old) old r new
 
   pub sizes-refused : {x : Refusal} → o ≡ opened.Refused x → SizesAnswer (Refused x) old
-  sizes-refused e = not-open b old 4 is e
+  sizes-refused e = not-open b old 4 (length old) is e
 
   pub cells-refused : {x : Refusal} → o ≡ opened.Refused x → CellsAnswer (Refused x) old
-  cells-refused e = not-open b old (cellCount (decode b)) is e
+  cells-refused e = not-open b old (cellCount (decode b)) (length old) is e
 
   module _ {s : Sizes} (e : o ≡ opened.Plan s) where
     sized : Sized s b
@@ -86,22 +85,22 @@ module _ (b old : List ℕ) {o : Opened} (is : o ≡ openAnswer b) where
     cells-count = cells-are sized
 
     pub sizes-short : length old < 4 → SizesAnswer (Refused Buffer) old
-    sizes-short h = too-short b old 4 is e h
+    sizes-short h = too-short b old 4 (length old) is e h
 
     pub sizes-ready : 4 ≤ length old → SizesReady s old
     sizes-ready h = record { bounded = rw (sized .sizes) (laid b (sized .laid-out) .sizes); room = h }
 
     pub sizes-told : {new : List ℕ} → 4 ≤ length old → new ≡ written (s .rows ∷ s .columns ∷ s .arrays ∷ s .denominator ∷ []) old → SizesAnswer Done new
-    sizes-told h w = told b old 4 is e h (rw (sized .sizes) at w)
+    sizes-told h w = told b old 4 (length old) is e h (rw (sized .sizes) at w)
 
     pub cells-product : Fits w64 (s .rows * s .columns)
     cells-product = sizes-product b s (sym is ∙ e)
 
     pub cells-short : length old < s .rows * s .columns → CellsAnswer (Refused Buffer) old
-    cells-short h = too-short b old (cellCount (decode b)) is e (omega (arith, cells-count))
+    cells-short h = too-short b old (cellCount (decode b)) (length old) is e (omega (arith, cells-count))
 
     pub cells-ready : s .rows * s .columns ≤ length old → HasTable b old
     cells-ready h = record { laid-out = sized .laid-out; room = omega (arith, cells-count) }
 
     pub cells-told : {new : List ℕ} → s .rows * s .columns ≤ length old → new ≡ written (decode b .cells) old → CellsAnswer Done new
-    cells-told h w = told b old (cellCount (decode b)) is e (omega (arith, cells-count)) w
+    cells-told h w = told b old (cellCount (decode b)) (length old) is e (omega (arith, cells-count)) w

@@ -9,12 +9,11 @@ use native.Mathlib.Omega.{arith}
 use lib.ListN.{length, getD, List·getD-eq-default}
 use lib.Dec.{eqb}
 use Rattle.base.proofs.Sums.{list-lt}
-use Rattle.base.specs.Lists.{sumTo}
 use Rattle.table.specs.Table.{total, cellPlaces, entryPlaces}
 use Rattle.table.specs.Whole.{gap, roundsTo}
 use Rattle.table.specs.Shape.{Shape}
 use Rattle.base.proofs.Lists.{and-right, all-at-member}
-use Rattle.table.proofs.Totals.{total-sum}
+use Rattle.table.proofs.Totals.{total-cell}
 use Rattle.rounding.specs.Rounding.{isRounding}
 use Rattle.table.proofs.Sizes.{shape-of}
 use Rattle.rounding.proofs.Roundings.{rounding-length}
@@ -23,10 +22,6 @@ use Rattle.plan.proofs.Entries.{limit-low, limit-high, Left, left, gap-
 use Rattle.plan.proofs.Leasts.{least-le, Attained, attained-in}
 use Rattle.plan.proofs.GridMembers.{cell-in, grand-in}
 use Rattle.plan.proofs.Losses.{without-length, without-total}
-
-pub total-cell : (g : List ℕ) (i : ℕ) → total g (cellPlaces i) ≡ getD g i 0
-unfolding sumTo
-total-cell g i = total-sum g 1 _ ∙ (let e : i + 0 * 1 ≡ i = omega arith in rw e (omega arith))
 
 module _ {r c : ℕ} {g : List ℕ} (s : Shape r c g) (w : ℕ) (wp : 0 < w) (n : List ℕ) (h : isRounding r c w g n ≡ true) where
   pub entry-rounds : {x : List ℕ} → Member x (entryPlaces r c) → roundsTo w (total g x) (total n x) ≡ true

@@ -35,7 +35,7 @@ use Rattle.plan.specs.Progress.{Progress}
 use Rattle.plan.specs.Grids.{AllGathered}
 use Rattle.plan.specs.Promises.{Promises}
 use Rattle.plan.proofs.GridMembers.{cell-in}
-use Rattle.plan.proofs.OneRound.{total-cell}
+use Rattle.table.proofs.Totals.{total-cell}
 use Rattle.plan.proofs.Progressing.{progress-end, end-rounds, ended}
 use Rattle.rounding.proofs.Calls.{array-small}
 use Rattle.plan.proofs.Gathering.{few-not-whole}

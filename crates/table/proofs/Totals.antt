@@ -1,8 +1,8 @@
 -- Laws on the entries of a table. Assumes nothing.
 use mathlib.Core.Path.{_≡_, refl, sym, _∙_}
-use mathlib.Core.List.{List, []}
+use mathlib.Core.List.{List, [], _∷_}
 use Prim.Native.Nat.{ℕ, _+_, _*_, _<_, _≤_}
-use native.Mathlib.Nat.{mul-le-mul, lt-of-le-of-lt, mul-one}
+use native.Mathlib.Nat.{add-zero, mul-le-mul, lt-of-le-of-lt, mul-one}
 use native.Mathlib.Omega.{arith}
 use lib.Arith.{digits-lt}
 use lib.Dec.{lit<}
@@ -11,7 +11,7 @@ use mir.Val.{Fits}
 use mir.Syntax.{w64}
 use Rattle.base.proofs.SumLoops.{Added, added-all}
 use Rattle.base.specs.Lists.{tabulate, sum, sumTo}
-use Rattle.table.specs.Table.{places, total}
+use Rattle.table.specs.Table.{places, cellPlaces, total}
 use Rattle.table.specs.Shape.{Shape, Reach}
 use Rattle.base.proofs.Sums.{sum-map}
 
@@ -19,6 +19,15 @@ use Rattle.base.proofs.Sums.{sum-map}
 pub total-sum : (g : List ℕ) (n : ℕ) (f : ℕ → ℕ) → total g (tabulate n f) ≡ sumTo n (λ k. getD g (f k) 0)
 unfolding total
 total-sum g n f = sum-map (λ k. getD g k 0) n f
+
+-- the total of one place, and of a cell's own
+pub total-one : (g : List ℕ) (i : ℕ) → total g (i ∷ []) ≡ getD g i 0
+unfolding total sum
+total-one g i = add-zero (getD g i 0)
+
+pub total-cell : (g : List ℕ) (i : ℕ) → total g (cellPlaces i) ≡ getD g i 0
+unfolding sumTo
+total-cell g i = total-sum g 1 _ ∙ (let e : i + 0 * 1 ≡ i = omega arith in rw e (omega arith))
 
 pub total-none : (g : List ℕ) → total g [] ≡ 0
 unfolding total sum
