@@ -32,6 +32,10 @@ pub number-small : (s : List ℕ) → ((k : ℕ) → getD s k 0 < 256) → (at :
 unfolding number
 number-small s bytes at = omega (arith, bytes at, bytes (at + 1))
 
+-- and four at most 4,294,967,295
+pub number-four-small : (s : List ℕ) → ((k : ℕ) → getD s k 0 < 256) → (at : ℕ) → number 4 s at < 4294967296
+number-four-small s bytes at = omega (arith, number-split 2 2 s at, number-small s bytes at, number-small s bytes (at + 2))
+
 -- a number in the bytes from k on
 pub number-drop : (n k : ℕ) (s : List ℕ) (at : ℕ) → number n (drop k s) at ≡ number n s (k + at)
 unfolding number

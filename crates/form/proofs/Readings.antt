@@ -17,7 +17,7 @@ use Rattle.form.specs.declared.Sizes.{Sizes}
 use Rattle.form.specs.Plan.{Weighted, arrayAt, cellCount}
 use Rattle.form.specs.Form.{bodyAt, rowsOf, columnsOf, arraysOf, amountOf, offsetOf, sizesOf, cellOf, countOf, laidOut, decode}
 use Rattle.form.specs.Parts.{Bounded, Laid, cellIn, countIn, Body, HasTable, HasArray, HasCounts}
-use Rattle.form.proofs.Numbers.{rest, number-drop, number-small, part-room}
+use Rattle.form.proofs.Numbers.{rest, number-drop, number-small, number-four-small, part-room}
 use Rattle.form.proofs.Layouts.{cells-few, cells-fit, laid}
 
 -- the arrays of the plan that some bytes hold
@@ -48,7 +48,10 @@ module _ (b : List ℕ) where
     unfolding decode
     counts-length = ap length decode-counts ∙ length-tabulate _ _
 
-  -- every count fits its bytes
+  -- every weight and every count fits its bytes
+  pub weight-small : ((k : ℕ) → getD b k 0 < 256) → (k : ℕ) → k < length (decode b .arrays) → arrayAt (decode b .arrays) k .weight < 4294967296
+  weight-small bytes k h = rw (decode-weight k h) (number-four-small b bytes _)
+
   pub counts-small : ((k : ℕ) → getD b k 0 < 256) → (k i : ℕ) → k < length (decode b .arrays) → getD (arrayAt (decode b .arrays) k .counts) i 0 < 65536
   counts-small bytes k i h = go (decLt i (rowsOf b * columnsOf b))
     where

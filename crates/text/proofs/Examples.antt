@@ -10,16 +10,13 @@ use Rattle.order.specs.Order.{nthRow, nthColumn, rank}
 use Rattle.rounding.specs.Order.{inOrder, arrayOf, firstOf}
 use Rattle.rounding.specs.Rounding.{isRounding, firstRounding}
 use Rattle.plan.specs.Rounds.{limitOf, weightOf, without, roundsFrom, planOf}
-use Rattle.text.specs.Text.{numbersFrom, parse, digits, decimal, spaced, line, printedLines, lineNumbers, listing, refused, output}
-use Rattle.text.specs.Examples.{parses, numbers, numerals, outputs}
+use Rattle.printing.specs.Lines.{digits, decimal, spaced, line, refused}
+use Rattle.text.specs.Text.{numbersFrom, parse, printedLines, lineNumbers, listing, output}
+use Rattle.text.specs.Examples.{parses, outputs}
 
 pub parsed : map (λ p. parse (p .text)) parses ≡ map (λ p. p .numbers) parses
 unfolding parse numbersFrom all
 parsed = refl
-
-pub digits-are : map decimal numbers ≡ numerals
-unfolding decimal digits
-digits-are = refl
 
 pub printed : map (λ o. output (o .text)) outputs ≡ map (λ o. o .prints) outputs
 unfolding parse numbersFrom all decimal digits spaced line printedLines lineNumbers listing refused output tableRefusal due planOf roundsFrom weightOf limitOf without tabulate sum least total entryPlaces whole gap roundsTo nthRow nthColumn rank inOrder arrayOf firstOf isRounding firstRounding zipWith

@@ -10,10 +10,12 @@ use Rattle.form.specs.Plan.{arrayAt}
 use Rattle.form.specs.Form.{laidOut, decode}
 use Rattle.form.specs.Parts.{Laid}
 use Rattle.form.proofs.Layouts.{laid}
-use Rattle.form.proofs.Readings.{decode-arrays, decode-few, counts-length, counts-small}
-use Rattle.text.specs.Text.{decimal, spaced, line, lineNumbers, listing, refused}
-use Rattle.text.specs.Write.{maxListing, Room, planLine}
-use Rattle.text.proofs.Decimals.{decimal-length, decimal-most}
+use Rattle.form.proofs.Readings.{decode-arrays, decode-few, counts-length, weight-small, counts-small}
+use Rattle.printing.specs.Lines.{decimal, spaced, line, refused}
+use Rattle.printing.specs.Write.{Room}
+use Rattle.printing.proofs.Decimals.{decimal-length, decimal-most}
+use Rattle.text.specs.Text.{lineNumbers, listing}
+use Rattle.text.specs.Write.{maxListing, planLine}
 use Rattle.text.proofs.Lines.{array-line, listing-whole}
 
 -- a line of numbers that after the first have at most five digits
@@ -49,7 +51,7 @@ module _ (b : List ℕ) (l : laidOut b ≡ true) where
         let numbers = spaced-length (a .weight) (a .counts) (λ i. omega (arith, counts-small b bytes k i h)) in
         let is : length (lineOf (suc k)) ≡ length (spaced (a .weight ∷ a .counts)) + 1 =
         ap (λ (n : List ℕ). length (line n)) (array-line (decode b) k h) ∙ length-append (spaced (a .weight ∷ a .counts)) (10 ∷ []) in
-        omega (arith, is, numbers, counts-length b k h, decode-few b l, decimal-most (a .weight))
+        omega (arith, is, numbers, counts-length b k h, decode-few b l, decimal-length 9 (a .weight) (omega (arith, weight-small b bytes k h)))
 
     lines-length : (k : ℕ) → k ≤ length (decode b .arrays) → length (joinTo (suc k) lineOf) ≤ 16 + 875 * k
     unfolding joinTo

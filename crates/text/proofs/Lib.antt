@@ -1,6 +1,4 @@
 pub mod Examples
-pub mod Decimals
-pub mod Writes
 pub mod Lines
 pub mod Scans
 pub mod Lengths

@@ -19,10 +19,11 @@ use Rattle.plan.specs.declared.Planned.the-variants.{Length, Refused}
 use Rattle.plan.specs.Call.{planBytes, planTests, planRefusal, planAnswer, PlanAnswers}
 use Rattle.plan.proofs.Planning.{promised}
 use Rattle.table.proofs.Checks.{passed-all}
+use Rattle.printing.specs.Lines.{refused}
+use Rattle.printing.specs.Write.{Wrote}
 use Rattle.text.specs.declared.Parsed.{Parsed}
 use Rattle.text.specs.Parsed.{parsedOf}
-use Rattle.text.specs.Text.{parse, listing, refused, refusedText, tableOutput, printed, output}
-use Rattle.text.specs.Write.{Wrote}
+use Rattle.text.specs.Text.{parse, listing, refusedText, tableOutput, printed, output}
 use Rattle.text.proofs.Answers.{accepted-count, padded-at, padded-part}
 
 -- the first n bytes of a buffer are laid out, and list what is printed

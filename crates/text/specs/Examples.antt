@@ -42,13 +42,6 @@ parses =
     ∷ refuses (49 ∷ 32 ∷ 50 ∷ 32 ∷ 51 ∷ replicate 4092 32)
     ∷ []
 
--- numbers, and the bytes of their digits
-abbrev pub numbers : List ℕ
-numbers = 0 ∷ 7 ∷ 10 ∷ 4294967295 ∷ []
-
-abbrev pub numerals : List (List ℕ)
-numerals = (48 ∷ []) ∷ (55 ∷ []) ∷ (49 ∷ 48 ∷ []) ∷ (52 ∷ 50 ∷ 57 ∷ 52 ∷ 57 ∷ 54 ∷ 55 ∷ 50 ∷ 57 ∷ 53 ∷ []) ∷ []
-
 -- an input and what is printed of it
 pub record Output : Type 0 where
   pub text : List ℕ

@@ -2,15 +2,16 @@
 use mathlib.Core.Bool.{Bool, true, false, cond, _&&_, _||_}
 use mathlib.Core.List.{List, [], _∷_, _++_, map}
 use mathlib.Core.Option.{Option, some, none}
-use Prim.Native.Nat.{ℕ, zero, suc, _+_, _-_, _*_, _/_, _%_}
+use Prim.Native.Nat.{ℕ, _+_, _-_, _*_}
 use lib.ListN.{length, getD, drop}
-use lib.Dec.{leb, ltb, eqb}
+use lib.Dec.{leb, eqb}
 use Rattle.base.specs.Lists.{all}
 use Rattle.refusals.specs.Numbers.{numberOf}
 use Rattle.refusals.specs.Due.{refusedOr}
 use Rattle.table.specs.Check.{tableRefusal}
 use Rattle.form.specs.Plan.{Plan}
 use Rattle.plan.specs.Rounds.{planOf}
+use Rattle.printing.specs.Lines.{line, refusedWord, refused}
 
 -- the longest text
 abbrev pub maxText : ℕ
@@ -48,24 +49,7 @@ parse s =
     let n = numbersFrom none s in
     cond (leb (length s) maxText) (cond (all isText s) (cond (leb 3 (length n)) (cond (all isNumber n) (some n) none) none) none) none
 
--- the digits, in base ten, of a number of at most n + 1 digits, and of one of 32 bits
-unfoldable pub digits : ℕ → ℕ → List ℕ
-digits zero x = (48 + x) ∷ []
-digits (suc n) x = cond (ltb x 10) ((48 + x) ∷ []) (digits n (x / 10) ++ ((48 + x % 10) ∷ []))
-
-unfoldable pub decimal : ℕ → List ℕ
-decimal x = digits 9 x
-
--- one space between the numbers
-unfoldable pub spaced : List ℕ → List ℕ
-spaced [] = []
-spaced (x ∷ []) = decimal x
-spaced (x ∷ y ∷ l) = decimal x ++ (32 ∷ spaced (y ∷ l))
-
--- a line ends with byte 10
-unfoldable pub line : List ℕ → List ℕ
-line l = spaced l ++ (10 ∷ [])
-
+-- line after line
 unfoldable pub printedLines : List (List ℕ) → List ℕ
 printedLines [] = []
 printedLines (l ∷ ls) = line l ++ printedLines ls
@@ -76,14 +60,6 @@ lineNumbers p = (p .rows ∷ p .columns ∷ p .denominator ∷ length (p .arrays
 
 unfoldable pub listing : Plan → List ℕ
 listing p = printedLines (lineNumbers p)
-
--- the bytes of "refused"
-abbrev pub refusedWord : List ℕ
-refusedWord = 114 ∷ 101 ∷ 102 ∷ 117 ∷ 115 ∷ 101 ∷ 100 ∷ []
-
--- the word, a space and the refusal's number
-unfoldable pub refused : ℕ → List ℕ
-refused n = refusedWord ++ (32 ∷ line (n ∷ []))
 
 -- the two words
 abbrev pub refusedText : List ℕ

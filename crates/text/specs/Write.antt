@@ -1,27 +1,14 @@
--- What is written into a lent buffer, and the lines of a stored plan. Assumes nothing.
+-- The lines of a stored plan, and room for its listing. Assumes nothing.
 use mathlib.Core.Path.{_≡_}
 use mathlib.Core.Bool.{true}
-use mathlib.Core.List.{List, [], _∷_}
-use Prim.Native.Nat.{ℕ, zero, suc, _+_, _≤_}
+use mathlib.Core.List.{List, []}
+use Prim.Native.Nat.{ℕ, _+_, _≤_}
 use lib.ListN.{length, getD, take}
-use Rattle.base.specs.Buffers.{putAt}
 use Rattle.form.specs.Plan.{Plan}
 use Rattle.form.specs.Form.{laidOut, decode}
-use Rattle.text.specs.Text.{line, lineNumbers, listing}
-
--- some bytes fit into a buffer from a place on
-pub record Room (out : List ℕ) (at : ℕ) (s : List ℕ) : Type 0 where
-  pub fits : at + length s ≤ length out
-
--- a call wrote some bytes from a place on, and returned the place after them
-pub record Wrote (out : List ℕ) (at : ℕ) (s after : List ℕ) (r : ℕ) : Type 0 where
-  pub next : r ≡ at + length s
-  pub buffer : after ≡ putAt out at s
-
--- what stands before the number at a place of a line
-abbrev pub gapBefore : ℕ → List ℕ
-gapBefore zero = []
-gapBefore (suc i) = 32 ∷ []
+use Rattle.printing.specs.Lines.{line}
+use Rattle.printing.specs.Write.{Room}
+use Rattle.text.specs.Text.{lineNumbers, listing}
 
 -- the longest listing of a laid-out plan: a first line of 16 bytes, and 170 lines of a weight of 10 digits and 144 counts of 5
 abbrev pub maxListing : ℕ

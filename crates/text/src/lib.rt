@@ -5,14 +5,13 @@ ghost use mathlib.Core.List.{List, map};
 ghost use Prim.Native.Nat.{ℕ, _<_, _≤_};
 ghost use lib.ListN.{length, getD};
 ghost use Rattle.form.specs.Form.{laidOut, decode};
-ghost use Rattle.text.specs.Text.{maxText, maxNumber, parse, decimal, listing, output};
+ghost use Rattle.text.specs.Text.{maxText, maxNumber, parse, listing, output};
 ghost use Rattle.text.specs.Write.{maxListing};
-ghost use Rattle.text.specs.Examples.{parses, numbers, numerals, outputs};
+ghost use Rattle.text.specs.Examples.{parses, outputs};
 
 pub mod output;
 mod parse;
 mod print;
-mod write;
 
 // No listing of a laid-out plan is longer.
 pub const MAX_LISTING: usize = 148766;
@@ -36,6 +35,5 @@ pub fn claims()
     ensures longest { λ _. ⌜ ((b : List ℕ) → ((k : ℕ) → getD b k 0 < 256) → laidOut b ≡ true
         → length (listing (decode b)) ≤ maxListing) ⌝ }
     ensures parsed { λ _. ⌜ map (λ p. parse (p .text)) parses ≡ map (λ p. p .numbers) parses ⌝ }
-    ensures digits { λ _. ⌜ map decimal numbers ≡ numerals ⌝ }
     ensures printed { λ _. ⌜ map (λ o. output (o .text)) outputs ≡ map (λ o. o .prints) outputs ⌝ }
 {}

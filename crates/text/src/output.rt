@@ -1,15 +1,16 @@
 // What the printing program prints of its input.
 ghost use Prim.Native.Nat.{_≤_};
 ghost use lib.ListN.{length};
+ghost use Rattle.printing.specs.Write.{Wrote};
 ghost use Rattle.text.specs.Text.{tableOutput, output};
-ghost use Rattle.text.specs.Write.{maxListing, Wrote};
+ghost use Rattle.text.specs.Write.{maxListing};
 use crate::parse::parse;
 use crate::print::print_plan_bytes;
-use crate::print::print_refusal;
 use crate::print::print_text_refusal;
 use form::MAX_LENGTH;
 use plan::Planned;
 use plan::plan;
+use printing::line::print_refusal;
 
 // The listing of a table's plan, or the table's refusal.
 fn output_table(rows: u32, columns: u32, denominator: u32, cells: &[u32], out: &mut [u8]) -> usize

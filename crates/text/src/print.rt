@@ -1,32 +1,19 @@
-// Printing a stored plan, and refusals.
+// Printing a stored plan, and the refusal of a text.
 ghost use mathlib.Core.Path.{_≡_};
 ghost use Prim.Native.Nat.{_+_, _≤_};
 ghost use lib.ListN.{length, getD};
 ghost use Rattle.base.specs.Fill.{Filled};
 ghost use Rattle.form.specs.Form.{decode};
-ghost use Rattle.refusals.specs.Numbers.{numberOf};
-ghost use Rattle.text.specs.Text.{line, listing, refused, refusedText};
-ghost use Rattle.text.specs.Write.{Room, Wrote, planLine, LineOf, LineRead, Printable, Listable, ListableAt};
-use crate::write::put_bytes;
-use crate::write::put_decimal;
-use crate::write::put_number;
+ghost use Rattle.printing.specs.Lines.{line};
+ghost use Rattle.printing.specs.Write.{Room, Wrote};
+ghost use Rattle.text.specs.Text.{listing, refusedText};
+ghost use Rattle.text.specs.Write.{planLine, LineOf, LineRead, Printable, Listable, ListableAt};
 use base::convert::u16_to_u32;
 use form::layout::sizes;
 use form::read::read_array;
 use form::read::weight;
-use refusals::Refusal;
-
-// Prints numbers as a line.
-fn print_numbers(numbers: &[u32], out: &mut [u8], at: usize) -> usize
-    requires { ⌜ Room (now out) at (line (now numbers)) ⌝ }
-    ensures { λ r. ⌜ Wrote (now (out .entry)) at (line (now (numbers .entry))) (now (out .exit)) r ⌝ }
-{
-    let mut end = at;
-    for i in 0..numbers.len() {
-        end = put_number(out, end, i, numbers[i]);
-    }
-    put_bytes(out, end, b"\n")
-}
+use printing::line::print_numbers;
+use printing::write::put_bytes;
 
 // The numbers of the first line: the sizes.
 fn head_numbers(plan: &[u8], numbers: &mut [u32; 145]) -> usize
@@ -106,16 +93,6 @@ pub fn print_plan_bytes(plan: &[u8], out: &mut [u8], at: usize) -> usize
     ensures { λ r. ⌜ Wrote (now (out .entry)) at (listing (decode (now (plan .entry)))) (now (out .exit)) r ⌝ }
 {
     print_lines(plan, out, at)
-}
-
-// The listing of a refusal.
-pub fn print_refusal(r: Refusal, out: &mut [u8], at: usize) -> usize
-    requires { ⌜ Room (now out) at (refused (numberOf r)) ⌝ }
-    ensures { λ end. ⌜ Wrote (now (out .entry)) at (refused (numberOf r)) (now (out .exit)) end ⌝ }
-{
-    let first = put_bytes(out, at, b"refused ");
-    let second = put_decimal(out, first, refusals::number(r));
-    put_bytes(out, second, b"\n")
 }
 
 // The listing of a text that is refused.

@@ -80,7 +80,7 @@ mod tests {
     fn literal_numbers_are_written() {
         for (number, row) in numbered(NUMERALS) {
             let (value, digits) = *row;
-            let found = line(&[u64::from(value)]);
+            let found = line(&[value]);
             assert_eq!(found, digits.to_string() + "\n", "row {number}: {row:?}");
         }
     }

@@ -1,4 +1,4 @@
-use Rattle.text.proofs.Writes.{wrote-inside, wrote-part}
+use Rattle.printing.proofs.Writes.{wrote-inside, wrote-part}
 use borrow.Author.Needs.{needs}
 use Rattle.print_plan.proofs.main.Statement.{statement}
 use Rattle.print_plan.proofs.main.Tie as tie

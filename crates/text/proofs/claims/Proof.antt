@@ -1,11 +1,11 @@
-use Rattle.text.proofs.Examples.{parsed, digits-are, printed}
+use Rattle.text.proofs.Examples.{parsed, printed}
 -- `text::claims` states what proofs/Lengths.antt proves.
 use Rattle.text.proofs.Lengths.{listing-length}
 use Rattle.text.proofs.claims.Statement.{statement}
 use Rattle.text.proofs.claims.Tie as tie
 
 returns : tie.Need-returns
-returns c = ((λ b bytes laid. listing-length b laid bytes), (parsed, (digits-are, printed)))
+returns c = ((λ b bytes laid. listing-length b laid bytes), (parsed, printed))
 
 pub claims-spec : {M : Type 1} → statement M
 claims-spec = tie.close (tie.spec returns)

@@ -56,11 +56,12 @@ pub fn parses() -> Vec<Parse> {
 }
 
 /// Numbers and their digits.
-pub const NUMERALS: &[(u32, &str)] = &[
+pub const NUMERALS: &[(u64, &str)] = &[
     (0, "0"),
     (7, "7"),
     (10, "10"),
     (4_294_967_295, "4294967295"),
+    (18_446_744_073_709_551_615, "18446744073709551615"),
 ];
 
 /// What is printed of a refused text.

@@ -3,9 +3,10 @@ use Prim.Native.Nat.{_+_, _-_, _≤_}
 use native.Mathlib.Omega.{arith}
 use lib.ListN.{length}
 use Rattle.form.specs.Form.{decode}
-use Rattle.text.specs.Text.{line, listing}
+use Rattle.printing.specs.Lines.{line}
+use Rattle.printing.proofs.Writes.{Writing, writing-room, writing-more, writing-length, writing-all}
+use Rattle.text.specs.Text.{listing}
 use Rattle.text.specs.Write.{planLine}
-use Rattle.text.proofs.Writes.{Writing, writing-room, writing-more, writing-length, writing-all}
 use Rattle.text.proofs.Lines.{plan-long, lines-few, lines-fit, lines-are, lines-none}
 use borrow.Author.Needs.{needs}
 use Rattle.text.proofs.print.print_lines.Statement.{statement}

@@ -2,8 +2,8 @@
 ghost use mathlib.Core.List.{[], _∷_, _++_};
 ghost use Prim.Native.Nat.{_+_, _≤_};
 ghost use lib.ListN.{length};
-ghost use Rattle.text.specs.Text.{decimal};
-ghost use Rattle.text.specs.Write.{Room, Wrote, gapBefore};
+ghost use Rattle.printing.specs.Lines.{decimal};
+ghost use Rattle.printing.specs.Write.{Room, Wrote, gapBefore};
 
 pub fn put_byte(out: &mut [u8], at: usize, b: u8) -> usize
     requires { ⌜ at + 1 ≤ length (now out) ⌝ }
@@ -27,7 +27,7 @@ pub fn put_bytes(out: &mut [u8], at: usize, s: &[u8]) -> usize
 }
 
 // A number in base ten.
-pub fn put_decimal(out: &mut [u8], at: usize, x: u32) -> usize
+pub fn put_decimal(out: &mut [u8], at: usize, x: u64) -> usize
     requires { ⌜ Room (now out) at (decimal x) ⌝ }
     ensures { λ r. ⌜ Wrote (now (out .entry)) at (decimal x) (now (out .exit)) r ⌝ }
 {
@@ -39,7 +39,7 @@ pub fn put_decimal(out: &mut [u8], at: usize, x: u32) -> usize
 }
 
 // The number at place i of a line: the first has no space before it.
-pub fn put_number(out: &mut [u8], at: usize, i: usize, x: u32) -> usize
+pub fn put_number(out: &mut [u8], at: usize, i: usize, x: u64) -> usize
     requires { ⌜ Room (now out) at (gapBefore i ++ decimal x) ⌝ }
     ensures { λ r. ⌜ Wrote (now (out .entry)) at (gapBefore i ++ decimal x) (now (out .exit)) r ⌝ }
 {

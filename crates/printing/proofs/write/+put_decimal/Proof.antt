@@ -1,14 +1,14 @@
 use borrow.Author.Needs.{needs}
-use Rattle.text.proofs.Writes.{small-room, small-wrote, tenth-room, last-room, last-wrote}
+use Rattle.printing.proofs.Writes.{small-room, small-wrote, tenth-room, last-room, last-wrote}
 use Prim.Native.Nat.{ℕ, _<_}
 use borrow.Fn.Kinds.{In}
 use borrow.Fn.PlainCycle.{Measures, is, falls, and}
-use Rattle.text.proofs.write.put_decimal.Reads as put-decimal
-use Rattle.text.proofs.write.put_decimal.Kinds as put-decimal-kinds
-use Rattle.text.proofs.write.+put_decimal.Lts-put_decimal as put-decimal-lts
-use Rattle.text.proofs.write.put_byte.Reads as put-byte-reads
-use Rattle.text.proofs.write.+put_decimal.{statement}
-use Rattle.text.proofs.write.+put_decimal.Tie.{close}
+use Rattle.printing.proofs.write.put_decimal.Reads as put-decimal
+use Rattle.printing.proofs.write.put_decimal.Kinds as put-decimal-kinds
+use Rattle.printing.proofs.write.+put_decimal.Lts-put_decimal as put-decimal-lts
+use Rattle.printing.proofs.write.put_byte.Reads as put-byte-reads
+use Rattle.printing.proofs.write.+put_decimal.{statement}
+use Rattle.printing.proofs.write.+put_decimal.Tie.{close}
 
 abbrev μ-put-decimal : Measures 1 put-decimal-kinds.ps ℕ
 μ-put-decimal κs a = a .1 .1 .0

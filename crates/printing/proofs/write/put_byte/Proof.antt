@@ -1,7 +1,7 @@
-use Rattle.text.proofs.Writes.{wrote-byte}
+use Rattle.printing.proofs.Writes.{wrote-byte}
 use borrow.Author.Needs.{needs}
-use Rattle.text.proofs.write.put_byte.Statement.{statement}
-use Rattle.text.proofs.write.put_byte.Tie as tie
+use Rattle.printing.proofs.write.put_byte.Statement.{statement}
+use Rattle.printing.proofs.write.put_byte.Tie as tie
 
 returns : tie.Need-returns
 returns c = search (needs, wrote-byte)

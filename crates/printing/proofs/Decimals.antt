@@ -7,7 +7,7 @@ use native.Mathlib.Nat.{pow-suc, div-lt-iff-lt-mul}
 use native.Mathlib.Omega.{arith}
 use borrow.Author.Tests.{lt-ltb, le-ltb}
 use lib.ListN.{length, length-append}
-use Rattle.text.specs.Text.{digits, decimal}
+use Rattle.printing.specs.Lines.{digits, decimal}
 
 digits-small : (n x : ℕ) → x < 10 → digits n x ≡ (48 + x) ∷ []
 unfolding digits
@@ -50,19 +50,19 @@ digits-length zero n x h = rw (digits-small n x h) (omega arith)
 digits-length (suc k) zero x h = rw (digits-none x) (omega arith)
 digits-length (suc k) (suc n) x h = digits-step (suc k) n x (digits-length k n (x / 10) (tenth (suc k) x h))
 
-pub decimal-most : (x : ℕ) → length (decimal x) ≤ 10
+pub decimal-most : (x : ℕ) → length (decimal x) ≤ 20
 unfolding decimal
-decimal-most x = digits-most 9 x
+decimal-most x = digits-most 19 x
 
 -- a number below 10 ^ (k + 1) has at most k + 1 digits
 pub decimal-length : (k x : ℕ) → x < 10 ^ suc k → length (decimal x) ≤ suc k
 unfolding decimal
-decimal-length k x h = digits-length k 9 x h
+decimal-length k x h = digits-length k 19 x h
 
 pub decimal-small : (x : ℕ) → x < 10 → decimal x ≡ (48 + x) ∷ []
 unfolding decimal
-decimal-small x h = digits-small 9 x h
+decimal-small x h = digits-small 19 x h
 
-pub decimal-more : (x : ℕ) → 10 ≤ x → x < 4294967296 → decimal x ≡ decimal (x / 10) ++ ((48 + x % 10) ∷ [])
+pub decimal-more : (x : ℕ) → 10 ≤ x → x < 18446744073709551616 → decimal x ≡ decimal (x / 10) ++ ((48 + x % 10) ∷ [])
 unfolding decimal
-decimal-more x h k = digits-more 8 x h ∙ ap (λ (l : List ℕ). l ++ ((48 + x % 10) ∷ [])) (sym (digits-enough 8 (x / 10) (omega arith)))
+decimal-more x h k = digits-more 18 x h ∙ ap (λ (l : List ℕ). l ++ ((48 + x % 10) ∷ [])) (sym (digits-enough 18 (x / 10) (omega arith)))

@@ -1,7 +1,7 @@
-use Rattle.text.proofs.Writes.{first-room, first-wrote, space-room, later-room, later-wrote}
+use Rattle.printing.proofs.Writes.{first-room, first-wrote, space-room, later-room, later-wrote}
 use borrow.Author.Needs.{needs}
-use Rattle.text.proofs.write.put_number.Statement.{statement}
-use Rattle.text.proofs.write.put_number.Tie as tie
+use Rattle.printing.proofs.write.put_number.Statement.{statement}
+use Rattle.printing.proofs.write.put_number.Tie as tie
 
 put-decimal-requires : tie.Need-put-decimal-requires
 put-decimal-requires c κs = search (needs, first-room)

@@ -1,12 +1,12 @@
-use mathlib.Core.Path.{_≡_, refl}
+use mathlib.Core.Path.{_≡_}
 use Prim.Native.Nat.{_-_}
 use lib.ListN.{length}
-use Rattle.text.specs.Text.{spaced}
-use Rattle.text.proofs.Writes.{Writing, writing-kept}
-use Rattle.text.proofs.Lines.{partOf, numbers-none, place-room, place-more, end-room, line-wrote}
+use Rattle.printing.specs.Lines.{spaced}
+use Rattle.printing.proofs.Writes.{Writing, writing-kept}
+use Rattle.printing.proofs.Lines.{partOf, numbers-none, place-room, place-more, end-room, line-wrote}
 use borrow.Author.Needs.{needs}
-use Rattle.text.proofs.print.print_numbers.Statement.{statement}
-use Rattle.text.proofs.print.print_numbers.Tie as tie
+use Rattle.printing.proofs.line.print_numbers.Statement.{statement}
+use Rattle.printing.proofs.line.print_numbers.Tie as tie
 
 abbrev Inv-loop : tie.InvT-loop
 Inv-loop numbers out₀ at end₀ i₀ t6 i-end out end i = (i-end ≡ length numbers) × Writing (partOf numbers) i-end i (spaced numbers) out₀ at out end
@@ -23,8 +23,8 @@ put-number-requires c κs = search (needs, place-room)
 loop-again : tie.Need-loop-again Inv-loop μ-loop
 loop-again c =
     let put = c .before .before in
-    let turn = put .before .before .before in
-    (turn .before .loop .inv .0, place-more _ (turn .before .loop .inv .1) (turn .loop-test .taken) refl (put .put-number .ensures))
+    let turn = put .before .before .before .before in
+    (turn .before .loop .inv .0, place-more _ (turn .before .loop .inv .1) (turn .loop-test .taken) (put .before .wide .ensures .is) (put .put-number .ensures))
 
 put-bytes-requires : tie.Need-put-bytes-requires Inv-loop μ-loop
 put-bytes-requires c κs = search (needs, end-room)
@@ -44,6 +44,7 @@ print-numbers-spec =
     loop-holds
     (λ c. search needs)
     (λ c. search needs)
+    (λ c κs. search needs)
     put-number-requires
     (λ c. search needs)
     (λ c. search needs)

@@ -10,9 +10,9 @@ use lib.ListN.{length, getD, set, take, drop, length-append}
 use lib.Seq.{take-suc, take-length, length-take-le}
 use Rattle.base.specs.Lists.{joinTo}
 use Rattle.base.proofs.Puts.{length-put, put-then, put-start, put-one, put-nothing}
-use Rattle.text.specs.Text.{decimal}
-use Rattle.text.specs.Write.{Room, Wrote, gapBefore}
-use Rattle.text.proofs.Decimals.{decimal-small, decimal-more}
+use Rattle.printing.specs.Lines.{decimal}
+use Rattle.printing.specs.Write.{Room, Wrote, gapBefore}
+use Rattle.printing.proofs.Decimals.{decimal-small, decimal-more}
 
 module _ (out : List ℕ) (at : ℕ) where
   pub wrote-none : Wrote out at [] out at
@@ -117,7 +117,7 @@ module _ (x : ℕ) {out : List ℕ} {at : ℕ} (h : Room out at (decimal x)) whe
   pub small-wrote : x < 10 → {last : List ℕ} {r : ℕ} → Wrote out at ((48 + x) ∷ []) last r → Wrote out at (decimal x) last r
   small-wrote s w = rw (decimal-small x s) w
 
-  module _ (t : 10 ≤ x) (b : x < 4294967296) where
+  module _ (t : 10 ≤ x) (b : x < 18446744073709551616) where
     split : Room out at (decimal (x / 10) ++ ((48 + x % 10) ∷ []))
     split = rw (decimal-more x t b) at h
 

@@ -1,9 +1,9 @@
 use Prim.Native.Nat.{_-_}
 use lib.ListN.{length}
-use Rattle.text.proofs.Writes.{Writing, writing-room, writing-more, writing-length, writing-all, byteOf, bytes-none}
+use Rattle.printing.proofs.Writes.{Writing, writing-room, writing-more, writing-length, writing-all, byteOf, bytes-none}
 use borrow.Author.Needs.{needs}
-use Rattle.text.proofs.write.put_bytes.Statement.{statement}
-use Rattle.text.proofs.write.put_bytes.Tie as tie
+use Rattle.printing.proofs.write.put_bytes.Statement.{statement}
+use Rattle.printing.proofs.write.put_bytes.Tie as tie
 
 abbrev Inv-loop : tie.InvT-loop
 Inv-loop out₀ at s end₀ i₀ out end i = Writing (byteOf s) (length s) i s out₀ at out end

@@ -1,7 +1,7 @@
-use Rattle.text.proofs.Lines.{refusal-word, refusal-number, refusal-end, refusal-wrote}
+use Rattle.printing.proofs.Lines.{refusal-word, refusal-number, refusal-end, refusal-wrote}
 use borrow.Author.Needs.{needs}
-use Rattle.text.proofs.print.print_refusal.Statement.{statement}
-use Rattle.text.proofs.print.print_refusal.Tie as tie
+use Rattle.printing.proofs.line.print_refusal.Statement.{statement}
+use Rattle.printing.proofs.line.print_refusal.Tie as tie
 
 put-bytes-requires : tie.Need-put-bytes-requires
 put-bytes-requires c κs = search (needs, refusal-word)
@@ -21,6 +21,7 @@ print-refusal-spec =
     (tie.spec
     (λ c. search needs)
     put-bytes-requires
+    (λ c κs. search needs)
     (λ c κs. search needs)
     put-decimal-requires
     (λ c. search needs)
