@@ -16,7 +16,7 @@ use Rattle.base.proofs.Every.{Passed, passed-more, every-not, every-elim}
 use Rattle.table.specs.Check.{upTo}
 use Rattle.table.proofs.Checks.{upTo-low, upTo-high}
 use Rattle.form.specs.declared.Sizes.{Sizes}
-use Rattle.form.specs.Form.{bodyAt, planLength, minLength, maxLength, formOf, rowsOf, columnsOf, arraysOf, zeroOf, offsetOf, denominatorOf, sizesOf, headRight, laidOut}
+use Rattle.form.specs.Form.{bodyAt, planLength, minLength, maxLength, formOf, rowsOf, columnsOf, arraysOf, zeroOf, offsetOf, denominatorOf, sizesOf, lengthOf, startRight, headRight, laidOut}
 use Rattle.form.specs.Parts.{Bounded, Contents, offsetsRight, Laid}
 
 -- where bodies begin, and how long a plan is
@@ -74,78 +74,100 @@ module _ {r c k : ℕ} (s : Bounded r c k) where
   offset-fits zero h = omega (arith, plan-most s)
   offset-fits (suc i) h = omega (arith, plan-most s, within i (omega arith))
 
--- the tests of the head, each by itself
+-- the tests of the first eight bytes, each by itself
 module _ (b : List ℕ) (x : ℕ) where
-  pub bad-form : x ≡ formOf b → (x ≡ 1 → ⊥) → false ≡ headRight b
-  unfolding headRight
+  pub bad-form : x ≡ formOf b → (x ≡ 1 → ⊥) → false ≡ startRight b
   bad-form e h = simp (ne-eqb (formOf b) 1 (λ q. h (e ∙ q)))
 
-  pub bad-zero : x ≡ zeroOf b → (x ≡ 0 → ⊥) → false ≡ headRight b
-  unfolding headRight
+  pub bad-zero : x ≡ zeroOf b → (x ≡ 0 → ⊥) → false ≡ startRight b
   bad-zero e h = simp (ne-eqb (zeroOf b) 0 (λ q. h (e ∙ q)), and-false)
 
   module _ (t : Bool) where
-    pub bad-rows : x ≡ rowsOf b → t ≡ upTo 12 x → not t ≡ true → false ≡ headRight b
-    unfolding headRight
+    pub bad-rows : x ≡ rowsOf b → t ≡ upTo 12 x → not t ≡ true → false ≡ startRight b
     bad-rows e q h = simp (ap (upTo 12) (sym e) ∙ sym q ∙ not-true t h, and-false)
 
-    pub bad-columns : x ≡ columnsOf b → t ≡ upTo 12 x → not t ≡ true → false ≡ headRight b
-    unfolding headRight
+    pub bad-columns : x ≡ columnsOf b → t ≡ upTo 12 x → not t ≡ true → false ≡ startRight b
     bad-columns e q h = simp (ap (upTo 12) (sym e) ∙ sym q ∙ not-true t h, and-false)
-
-    pub bad-arrays : x ≡ arraysOf b → t ≡ upTo 170 x → not t ≡ true → false ≡ headRight b
-    unfolding headRight
-    bad-arrays e q h = simp (ap (upTo 170) (sym e) ∙ sym q ∙ not-true t h, and-false)
 
 -- all of them passed but the last
 module _ (b : List ℕ) where
   module _ (f z : ℕ) (fe : f ≡ formOf b) (fh : f ≡ 1) (ze : z ≡ zeroOf b) (zh : z ≡ 0) where
-    module _ (r c k d : ℕ) (re : r ≡ rowsOf b) (ce : c ≡ columnsOf b) (ke : k ≡ arraysOf b) (de : d ≡ denominatorOf b) where
-      pub head-good : (x y w v : Bool) → x ≡ upTo 12 r → not x ≡ false → y ≡ upTo 12 c → not y ≡ false → w ≡ upTo 170 k → not w ≡ false
-          → v ≡ upTo 65535 d → v ≡ headRight b
-      unfolding headRight
-      head-good x y w v xe xh ye yh we wh ve = simp (
+    module _ (r c k : ℕ) (re : r ≡ rowsOf b) (ce : c ≡ columnsOf b) (ke : k ≡ arraysOf b) where
+      pub start-good : (x y w : Bool) → x ≡ upTo 12 r → not x ≡ false → y ≡ upTo 12 c → not y ≡ false → w ≡ upTo 170 k → w ≡ startRight b
+      start-good x y w xe xh ye yh we = simp (
         eq-eqb _ _ (sym fe ∙ fh),
         eq-eqb _ _ (sym ze ∙ zh),
         ap (upTo 12) (sym re) ∙ sym xe ∙ not-false x xh,
         ap (upTo 12) (sym ce) ∙ sym ye ∙ not-false y yh,
-        ap (upTo 170) (sym ke) ∙ sym we ∙ not-false w wh,
-        sym de,
+        sym ke,
       )
-          ve
+          we
 
--- what a head that passed its tests says
-pub record Headed (b : List ℕ) : Type 0 where
+-- the test of D besides
+module _ (b : List ℕ) (t : Bool) (e : t ≡ startRight b) where
+  pub bad-start : not t ≡ true → false ≡ headRight b
+  unfolding headRight
+  bad-start h = ap (λ x. x && upTo 65535 (denominatorOf b)) (sym (not-true t h) ∙ e)
+
+  pub head-good : not t ≡ false → (d : ℕ) → d ≡ denominatorOf b → (x : Bool) → x ≡ upTo 65535 d → x ≡ headRight b
+  unfolding headRight
+  head-good h d de x xe = xe ∙ ap (upTo 65535) de ∙ ap (λ y. y && upTo 65535 (denominatorOf b)) (sym (not-false t h) ∙ e)
+
+-- what the first eight bytes say if they passed their tests
+pub record Started (b : List ℕ) : Type 0 where
   pub some-rows : 1 ≤ rowsOf b
   pub some-columns : 1 ≤ columnsOf b
   pub some-arrays : 1 ≤ arraysOf b
   pub sizes : Bounded (rowsOf b) (columnsOf b) (arraysOf b)
+
+pub started : (b : List ℕ) → startRight b ≡ true → Started b
+started b h =
+    let f = eqb (formOf b) 1 in
+    let z = eqb (zeroOf b) 0 in
+    let r = upTo 12 (rowsOf b) in
+    let c = upTo 12 (columnsOf b) in
+    let k = upTo 170 (arraysOf b) in
+    let three : (f && z && r && c) ≡ true = and-left (f && z && r && c) k h in
+    let two : (f && z && r) ≡ true = and-left (f && z && r) c three in
+    record {
+      some-rows = upTo-low 12 _ (and-right (f && z) r two);
+      some-columns = upTo-low 12 _ (and-right (f && z && r) c three);
+      some-arrays = upTo-low 170 _ (and-right (f && z && r && c) k h);
+      sizes = record {
+        rows = upTo-high 12 _ (and-right (f && z) r two);
+        columns = upTo-high 12 _ (and-right (f && z && r) c three);
+        arrays = upTo-high 170 _ (and-right (f && z && r && c) k h);
+      };
+    }
+
+-- the length that they say
+module _ (b : List ℕ) (h : startRight b ≡ true) where
+  pub length-least : minLength ≤ lengthOf b
+  length-least = let s = started b h in plan-least (s .some-rows) (s .some-columns) (s .some-arrays)
+
+  pub length-most : lengthOf b ≤ maxLength
+  length-most = plan-most (started b h .sizes)
+
+  pub length-bounded : (r c k : ℕ) → r ≡ rowsOf b → c ≡ columnsOf b → k ≡ arraysOf b → Bounded r c k
+  length-bounded r c k re ce ke = rw (re, ce, ke) (started b h .sizes)
+
+pub length-by : (b : List ℕ) (r c k n : ℕ) → r ≡ rowsOf b → c ≡ columnsOf b → k ≡ arraysOf b → n ≡ planLength r c k → n ≡ lengthOf b
+length-by b r c k n re ce ke e = rw (re, ce, ke) at e
+
+-- what a head that passed its tests says
+pub record Headed (b : List ℕ) : Type 0 where
+  pub start : Started b
   pub some-denominator : 1 ≤ denominatorOf b
   pub denominator : denominatorOf b ≤ 65535
 
 pub headed : (b : List ℕ) → headRight b ≡ true → Headed b
 unfolding headRight
 headed b h =
-    let f = eqb (formOf b) 1 in
-    let z = eqb (zeroOf b) 0 in
-    let r = upTo 12 (rowsOf b) in
-    let c = upTo 12 (columnsOf b) in
-    let k = upTo 170 (arraysOf b) in
     let d = upTo 65535 (denominatorOf b) in
-    let four : (f && z && r && c && k) ≡ true = and-left (f && z && r && c && k) d h in
-    let three : (f && z && r && c) ≡ true = and-left (f && z && r && c) k four in
-    let two : (f && z && r) ≡ true = and-left (f && z && r) c three in
     record {
-      some-rows = upTo-low 12 _ (and-right (f && z) r two);
-      some-columns = upTo-low 12 _ (and-right (f && z && r) c three);
-      some-arrays = upTo-low 170 _ (and-right (f && z && r && c) k four);
-      sizes = record {
-        rows = upTo-high 12 _ (and-right (f && z) r two);
-        columns = upTo-high 12 _ (and-right (f && z && r) c three);
-        arrays = upTo-high 170 _ (and-right (f && z && r && c) k four);
-      };
-      some-denominator = upTo-low 65535 _ (and-right (f && z && r && c && k) d h);
-      denominator = upTo-high 65535 _ (and-right (f && z && r && c && k) d h);
+      start = started b (and-left (startRight b) d h);
+      some-denominator = upTo-low 65535 _ (and-right (startRight b) d h);
+      denominator = upTo-high 65535 _ (and-right (startRight b) d h);
     }
 
 -- what is known of a plan that passes the tests of its layout
@@ -157,10 +179,10 @@ laid b h =
     let one : (headRight b && e) ≡ true = and-left (headRight b && e) o h in
     let head = headed b (and-left (headRight b) e one) in
     record {
-      some-rows = head .some-rows;
-      some-columns = head .some-columns;
-      some-arrays = head .some-arrays;
-      sizes = head .sizes;
+      some-rows = head .start .some-rows;
+      some-columns = head .start .some-columns;
+      some-arrays = head .start .some-arrays;
+      sizes = head .start .sizes;
       some-denominator = head .some-denominator;
       denominator = head .denominator;
       len = eqb-true _ _ (and-right (headRight b) e one);
@@ -193,7 +215,7 @@ module _ (b : List ℕ) (t : Bool) (e : t ≡ headRight b) where
     head = sym e ∙ not-false t h
 
     pub sizes-bounded : Bounded (s .rows) (s .columns) (s .arrays)
-    sizes-bounded = rw is (headed b head .sizes)
+    sizes-bounded = rw is (headed b head .start .sizes)
 
     module _ (n : ℕ) (ne : n ≡ planLength (s .rows) (s .columns) (s .arrays)) where
       pub bad-length : (length b ≡ n → ⊥) → false ≡ laidOut b

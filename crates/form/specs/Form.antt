@@ -89,6 +89,10 @@ denominatorOf b = amountOf b 0
 abbrev pub sizesOf : List ℕ → Sizes
 sizesOf b = record { rows = rowsOf b; columns = columnsOf b; arrays = arraysOf b; denominator = denominatorOf b }
 
+-- and the length of a plan of such sizes
+abbrev pub lengthOf : List ℕ → ℕ
+lengthOf b = planLength (rowsOf b) (columnsOf b) (arraysOf b)
+
 -- cell i of the table, and count i of array k, from where the entry of the contents points
 abbrev pub cellOf : List ℕ → ℕ → ℕ
 cellOf b i = number 4 b (offsetOf b 0 + 4 * i)
@@ -108,15 +112,15 @@ decode b =
       arrays = tabulate (arraysOf b) (λ k. record { weight = amountOf b (suc k); counts = tabulate n (countOf b (suc k)) });
     }
 
--- form, zero field and bounds
+-- form, zero field and the bounds of the sizes, which the first eight bytes say; and of D as well
+abbrev pub startRight : List ℕ → Bool
+startRight b = eqb (formOf b) 1 && eqb (zeroOf b) 0 && upTo maxRows (rowsOf b) && upTo maxColumns (columnsOf b) && upTo maxArrays (arraysOf b)
+
 unfoldable pub headRight : List ℕ → Bool
-headRight b =
-    eqb (formOf b) 1 && eqb (zeroOf b) 0
-    && upTo maxRows (rowsOf b) && upTo maxColumns (columnsOf b) && upTo maxArrays (arraysOf b) && upTo maxDenominator (denominatorOf b)
+headRight b = startRight b && upTo maxDenominator (denominatorOf b)
 
 -- head, length and offsets are right: else 5
 unfoldable pub laidOut : List ℕ → Bool
 laidOut b =
-    headRight b
-    && eqb (length b) (planLength (rowsOf b) (columnsOf b) (arraysOf b))
+    headRight b && eqb (length b) (lengthOf b)
     && every (arraysOf b + 1) (λ k. eqb (offsetOf b k) (bodyAt (rowsOf b) (columnsOf b) (arraysOf b) k))

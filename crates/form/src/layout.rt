@@ -1,8 +1,9 @@
 // The layout of a stored plan: refusal 5.
 ghost use mathlib.Core.Path.{_≡_};
+ghost use mathlib.Core.Bool.{true};
 ghost use Prim.Native.Nat.{_+_, _*_, _≤_};
 ghost use lib.ListN.{length};
-ghost use Rattle.form.specs.Form.{bodyAt, planLength, amountOf, offsetOf, sizesOf, headRight, laidOut};
+ghost use Rattle.form.specs.Form.{bodyAt, planLength, lengthOf, amountOf, offsetOf, sizesOf, startRight, headRight, laidOut};
 ghost use Rattle.form.specs.Parts.{Bounded, Contents, offsetsRight};
 use crate::Sizes;
 use crate::bytes::four;
@@ -61,10 +62,10 @@ pub fn plan_length(rows: usize, columns: usize, arrays: usize) -> usize
     body_at(rows, columns, arrays, arrays + 1)
 }
 
-// Whether form, zero field and sizes are right.
-fn head_right(plan: &[u8]) -> bool
-    requires { ⌜ 16 ≤ length (now plan) ⌝ }
-    ensures { λ r. ⌜ r ≡ headRight (now (plan .entry)) ⌝ }
+// Whether form, zero field, rows, columns and arrays are right, which the first eight bytes say.
+pub fn start_right(plan: &[u8]) -> bool
+    requires { ⌜ 8 ≤ length (now plan) ⌝ }
+    ensures { λ r. ⌜ r ≡ startRight (now (plan .entry)) ⌝ }
 {
     if two(plan, 0) != 1 {
         return false;
@@ -78,7 +79,27 @@ fn head_right(plan: &[u8]) -> bool
     if !up_to(Table::MAX_COLUMNS, one(plan, 3) as u32) {
         return false;
     }
-    if !up_to(Table::MAX_ARRAYS, two(plan, 4) as u32) {
+    up_to(Table::MAX_ARRAYS, two(plan, 4) as u32)
+}
+
+// The length that these eight bytes say.
+pub fn length_of(plan: &[u8]) -> usize
+    requires { ⌜ (8 ≤ length (now plan)) × (startRight (now plan) ≡ true) ⌝ }
+    ensures { λ r. ⌜ r ≡ lengthOf (now (plan .entry)) ⌝ }
+{
+    plan_length(
+        one(plan, 2) as usize,
+        one(plan, 3) as usize,
+        two(plan, 4) as usize,
+    )
+}
+
+// Whether the denominator is right besides.
+fn head_right(plan: &[u8]) -> bool
+    requires { ⌜ 16 ≤ length (now plan) ⌝ }
+    ensures { λ r. ⌜ r ≡ headRight (now (plan .entry)) ⌝ }
+{
+    if !start_right(plan) {
         return false;
     }
     up_to(Table::MAX_DENOMINATOR, four(plan, 8))
