@@ -1,6 +1,7 @@
 // The C interface: each call thin over the proved one, its answer as a number. A slice is a pointer and then its length in elements.
 ghost use mathlib.Core.Path.{_≡_};
-ghost use lib.ListN.{length};
+ghost use mathlib.Core.List.{_++_};
+ghost use lib.ListN.{length, drop};
 ghost use Rattle.refusals.specs.Answer.{answerNumber};
 ghost use Rattle.refusals.specs.Due.{answerOf, after};
 ghost use Rattle.base.specs.Buffers.{written};
@@ -11,6 +12,7 @@ ghost use Rattle.form.specs.Plan.{cellCount};
 ghost use Rattle.form.specs.Form.{decode};
 ghost use Rattle.opening.specs.Open.{openAnswer, openedNumber, drawRefusal, drawnArray};
 ghost use Rattle.parts.specs.Parts.{sizeNumbers, partRefusal};
+ghost use Rattle.variances.specs.Covariance.{numerators};
 ghost use Rattle.pool.specs.Pool.{poolRefusal, lent, pooledInto};
 ghost use Rattle.campaign.specs.Record.{recordOf};
 ghost use Rattle.campaign.specs.Calls.{started, ask, made, Starts, Draws};
@@ -119,6 +121,17 @@ pub extern "C" fn lufodimi_cells(plan: &[u8], cells: &mut [u32]) -> u32
 {
     let read = parts::cells(plan, cells);
     refusals::answer_number(read)
+}
+
+// Writes the sum of all cell variances of a plan, the smallest and the largest covariance of two different cells, as numerators: 0, or the refusal's number.
+#[no_mangle]
+pub extern "C" fn lufodimi_variances(plan: &[u8], out: &mut [i64]) -> u32
+    ensures number { λ n. ⌜ n ≡ answerNumber (answerOf (partRefusal (now (plan .entry)) 3 (length (now (out .entry))))) ⌝ }
+    ensures buffer { λ _. ⌜ now (out .exit) ≡ after (partRefusal (now (plan .entry)) 3 (length (now (out .entry))))
+        (numerators (decode (now (plan .entry))) ++ drop 3 (now (out .entry))) (now (out .entry)) ⌝ }
+{
+    let measured = variances::call::variances(plan, out);
+    refusals::answer_number(measured)
 }
 
 // Starts a campaign: 0, or the refusal's number.

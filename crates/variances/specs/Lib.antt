@@ -1,0 +1,4 @@
+pub mod Covariance
+pub mod Lifted
+pub mod Parts
+pub mod Examples

@@ -1,0 +1,54 @@
+// Exact variances and covariances of a plan's cells, as numerators over D·D.
+ghost use mathlib.Core.Path.{_≡_};
+ghost use mathlib.Core.List.{List, map, List·Memᴰ as Member};
+ghost use Prim.Native.Nat.{ℕ, _*_, _<_, _≤_};
+ghost use lib.IntN.{pos};
+ghost use lib.ListN.{getD};
+ghost use Rattle.table.specs.Table.{total};
+ghost use Rattle.form.specs.Plan.{Plan, cellCount};
+ghost use Rattle.form.specs.Form.{decode};
+ghost use Rattle.opening.specs.Open.{heldTo, Opens};
+ghost use Rattle.variances.specs.Covariance.{at, weightedProducts, covariance, cellCovariance, variance, overPairs, roundingVariance};
+ghost use Rattle.variances.specs.Lifted.{lift};
+ghost use Rattle.variances.specs.Examples.{cases, told, said};
+
+pub mod call;
+pub mod measure;
+mod pairs;
+mod sums;
+
+// The covariances of the code are lifted by this, the largest product of two cells, so that none is below zero.
+pub const LIFT: u64 = 4294836225000000;
+
+// The three numerators of a plan: the sum of all cell variances, and the smallest and the largest covariance of two different cells, these two lifted.
+pub struct Numerators {
+    pub variances: u64,
+    pub smallest: u64,
+    pub largest: u64,
+}
+
+// The smallest and the largest of some numbers.
+pub struct Extremes {
+    pub low: u64,
+    pub high: u64,
+}
+
+// The constants of the code are the bounds of the definitions.
+pub fn bounds()
+    ensures lift { λ _. do ⌜ (← ⟦LIFT⟧ .entry) ≡ lift ⌝ }
+{}
+
+// Of any plan: a covariance does not depend on the order of its two, and the variance of a total over some places is the sum of the covariances over all
+// their ordered pairs. Of every plan that opens: the variance of a cell, and of any entry that the plan is held to, is f·(D - f), f the remainder of the
+// table's by D; and neither side of a covariance of two cells is above the lift, which is below 2^53. And the literal cases are as stated.
+pub fn claims()
+    ensures symmetric { λ _. ⌜ ((p : Plan) (x y : List ℕ → ℕ) → covariance p x y ≡ covariance p y x) ⌝ }
+    ensures pairs { λ _. ⌜ ((p : Plan) (s : List ℕ) → variance p s ≡ overPairs p s) ⌝ }
+    ensures cells { λ _. ⌜ ((b : List ℕ) → Opens b → (k : ℕ) → k < cellCount (decode b)
+        → cellCovariance (decode b) k k ≡ pos (roundingVariance (decode b .denominator) (getD (decode b .cells) k 0))) ⌝ }
+    ensures entries { λ _. ⌜ ((b : List ℕ) → Opens b → (s : List ℕ) → Member s (heldTo (decode b .rows) (decode b .columns))
+        → variance (decode b) s ≡ pos (roundingVariance (decode b .denominator) (total (decode b .cells) s))) ⌝ }
+    ensures bounded { λ _. ⌜ ((b : List ℕ) → Opens b → (i j : ℕ) → i < cellCount (decode b) → j < cellCount (decode b)
+        → (decode b .denominator * weightedProducts (decode b .arrays) (at i) (at j) ≤ lift) × (at i (decode b .cells) * at j (decode b .cells) ≤ lift)) ⌝ }
+    ensures told { λ _. ⌜ map told cases ≡ map said cases ⌝ }
+{}
