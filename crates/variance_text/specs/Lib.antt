@@ -1,0 +1,4 @@
+pub mod VarianceText
+pub mod Read
+pub mod Write
+pub mod Examples
