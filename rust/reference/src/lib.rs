@@ -11,6 +11,7 @@ mod rounding;
 mod stored;
 mod table;
 mod text;
+mod variances;
 
 pub use campaign::{bytes_of_bits, campaign_draw, start};
 pub use parts::{cells, sizes};
@@ -21,3 +22,4 @@ pub use rounding::{first_rounding, is_controlled_rounding, round};
 pub use stored::{draw, encode, open, stored_length};
 pub use table::{entries, Table};
 pub use text::{print_plan, LONGEST_INPUT};
+pub use variances::{covariance, plan_variances, variances, write_variances};

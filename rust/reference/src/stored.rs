@@ -4,7 +4,7 @@ use crate::rounding::write_counts;
 use crate::{is_controlled_rounding, Array, Plan, Refusal, Table};
 
 /// The bytes of head and of one entry of the contents.
-const HEAD: usize = 8;
+pub const HEAD: usize = 8;
 const CONTENTS_ENTRY: usize = 8;
 
 /// The length of a stored plan with this many arrays of this many cells.
@@ -83,10 +83,8 @@ fn number_at(bytes: &[u8], position: usize, width: usize) -> u64 {
         .fold(0, |value, &byte| value << 8 | u64::from(byte))
 }
 
-/// The plan if layout, length and the bounds of the head hold. With rows, columns
-/// and the number of arrays known, every number has its place, and the remaining
-/// fields are right exactly if the plan is stored as these bytes.
-fn decode(bytes: &[u8]) -> Option<Plan> {
+/// Rows, columns and the number of arrays, if there is a head and they are in bounds.
+fn sizes_by_head(bytes: &[u8]) -> Option<[usize; 3]> {
     if bytes.len() < HEAD {
         return None;
     }
@@ -96,11 +94,25 @@ fn decode(bytes: &[u8]) -> Option<Plan> {
     let bounds_hold = Table::ROWS.contains(&rows)
         && Table::COLUMNS.contains(&columns)
         && Table::ARRAYS.contains(&arrays);
-    let cells = (rows * columns) as usize;
-    if !bounds_hold || bytes.len() != stored_length(arrays as usize, cells) {
+    bounds_hold.then_some([rows as usize, columns as usize, arrays as usize])
+}
+
+/// The length of the stored plan that begins with these bytes, if its head is right.
+pub fn length_by_head(bytes: &[u8]) -> Option<usize> {
+    let [rows, columns, arrays] = sizes_by_head(bytes)?;
+    let (form, zero) = (number_at(bytes, 0, 2), number_at(bytes, 6, 2));
+    (form == 1 && zero == 0).then(|| stored_length(arrays, rows * columns))
+}
+
+/// The plan if layout, length and the bounds of the head hold. With rows, columns
+/// and the number of arrays known, every number has its place, and the remaining
+/// fields are right exactly if the plan is stored as these bytes.
+fn decode(bytes: &[u8]) -> Option<Plan> {
+    let [rows, columns, arrays] = sizes_by_head(bytes)?;
+    if bytes.len() != stored_length(arrays, rows * columns) {
         return None;
     }
-    let plan = read_plan(bytes, rows as usize, columns as usize, arrays as usize);
+    let plan = read_plan(bytes, rows, columns, arrays);
     let bound_holds = Table::DENOMINATORS.contains(&plan.table.denominator);
     (bound_holds && encode(&plan) == bytes).then_some(plan)
 }

@@ -10,3 +10,4 @@ mod refusals;
 mod samples;
 mod stored_plans;
 mod text;
+mod variances;

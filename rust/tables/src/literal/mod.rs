@@ -15,6 +15,7 @@ pub mod round;
 pub mod runs;
 pub mod stored;
 pub mod text;
+pub mod variances;
 
 use crate::GivenTable;
 

@@ -5,7 +5,7 @@ use super::stored::{changed, longer, RECURRING, SQUARE, WIDE};
 
 /// One cell 2 over D 3: equal arrays recur, in any order.
 #[rustfmt::skip]
-const THREE_ONES: &[u8] = &[
+pub(super) const THREE_ONES: &[u8] = &[
     1, 0, 1, 1, 3, 0, 0, 0,
     3, 0, 0, 0, 40, 0, 0, 0,
     1, 0, 0, 0, 44, 0, 0, 0,
@@ -80,7 +80,7 @@ const COLUMNS_VARY: &[u8] = &[
 
 /// No array.
 #[rustfmt::skip]
-const NO_ARRAYS: &[u8] = &[
+pub(super) const NO_ARRAYS: &[u8] = &[
     1, 0, 1, 1, 0, 0, 0, 0,
     1, 0, 0, 0, 16, 0, 0, 0,
     0, 0, 0, 0,
@@ -101,7 +101,7 @@ pub(super) fn one_cell(denominator: u8, cell: u8, weight: u8, count: u8) -> Vec<
 /// Cells 0 over D 1 with one array: r and c, the offset of the array, and then the
 /// zeros of both bodies.
 #[rustfmt::skip]
-fn zeros(rows: u8, columns: u8, offset: u8, bytes: usize) -> Vec<u8> {
+pub(super) fn zeros(rows: u8, columns: u8, offset: u8, bytes: usize) -> Vec<u8> {
     let head = [
         1, 0, rows, columns, 1, 0, 0, 0,
         1, 0, 0, 0, 24, 0, 0, 0,
@@ -112,7 +112,7 @@ fn zeros(rows: u8, columns: u8, offset: u8, bytes: usize) -> Vec<u8> {
 
 /// One cell 0 over D 171 with 171 arrays, weight 1 each.
 #[rustfmt::skip]
-fn many_arrays() -> Vec<u8> {
+pub(super) fn many_arrays() -> Vec<u8> {
     let mut bytes = vec![
         1, 0, 1, 1, 171, 0, 0, 0,
         171, 0, 0, 0, 104, 5, 0, 0,

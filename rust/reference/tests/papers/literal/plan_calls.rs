@@ -1,9 +1,9 @@
-//! Stored plans: what they hold, which of them open, what they tell, and draws.
+//! Stored plans: what they hold, which of them open, what they tell, draws and variances.
 
 use super::assert_rows;
 use crate::samples::stated_plan;
 use reference::{encode, number_of, Refusal};
-use tables::literal::{draw, open, parts, stored};
+use tables::literal::{draw, open, parts, stored, variances};
 
 #[test]
 fn stored_plans_hold_what_is_said() {
@@ -51,6 +51,18 @@ fn draws() {
         let answer = reference::draw(&row.given.plan, row.given.number, &mut counts);
         (
             (number_of(answer), counts),
+            (row.number, row.result.clone()),
+        )
+    });
+}
+
+#[test]
+fn calls_of_variances() {
+    assert_rows(&variances::calls(), |row| {
+        let mut numerators = row.buffer.clone();
+        let answer = reference::variances(&row.given, &mut numerators);
+        (
+            (number_of(answer), numerators),
             (row.number, row.result.clone()),
         )
     });
