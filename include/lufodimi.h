@@ -1,4 +1,4 @@
-/* Controlled selection: roundings, pooled tables, plans, draws and campaigns. For x86-64 and the C ABI of its systems.
+/* Controlled selection: roundings, pooled tables, plans, draws, campaigns and variances. For x86-64 and the C ABI of its systems.
  *
  * A table has rows and columns of cells, whole numbers in row order, over one denominator: a cell over the denominator is the count
  * expected there. A plan is a list of whole-number arrays, one count a cell, with weights that add up to the denominator. Draw numbers
@@ -19,7 +19,7 @@
  * - A refused start or draw stores the record's old count back, so the record has to be writable in any case.
  *
  * No call keeps a pointer, none uses a heap, none has a state of its own, so calls may run at the same time on different buffers.
- * Planning needs about 60 KB of stack, every other call less than 8 KB.
+ * Planning needs about 60 KB of stack, variances about 55 KB, every other call less than 8 KB.
  */
 #ifndef LUFODIMI_H
 #define LUFODIMI_H
@@ -45,6 +45,9 @@ extern "C" {
 
 /* How many numbers lufodimi_sizes writes. */
 #define LUFODIMI_SIZES 4
+
+/* How many numbers lufodimi_variances writes. */
+#define LUFODIMI_VARIANCES 3
 
 /* What a call returns, but for the length of a plan. */
 enum lufodimi_answer {
@@ -101,6 +104,13 @@ uint32_t lufodimi_cells(const uint8_t *plan, size_t plan_length, uint32_t *cells
 /* Writes the array that belongs to a draw number: rows times columns counts, in row order. Refusals 5, 6, 7, 8. */
 uint32_t lufodimi_draw(const uint8_t *plan, size_t plan_length, uint32_t number,
                        uint16_t *counts, size_t counts_length);
+
+/* Writes how much a plan's cells vary, exactly: LUFODIMI_VARIANCES numerators over the squared denominator, which are the sum of all cell
+ * variances, the smallest and then the largest covariance of two different cells; the last two are 0 and 0 for a plan of one cell. The
+ * numerator of the covariance of two cells is the denominator times the weighted sum of the products of their counts, minus the product of
+ * their table cells, and it is negative if one tends to replace the other; a cell's variance is its covariance with itself. Refusals 5, 6,
+ * 7, in this order. */
+uint32_t lufodimi_variances(const uint8_t *plan, size_t plan_length, int64_t *numerators, size_t numerators_length);
 
 /* Starts a campaign, whatever the record held: sets to zero the count, (denominator + 7) / 8 bytes of bits, one bit for each draw number,
  * and rows times columns numbers of the tally, one for each cell. Refusals 5, 6, 7. */

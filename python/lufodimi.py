@@ -1,4 +1,4 @@
-"""Controlled selection over the proved library: tables, plans, draws and campaigns.
+"""Controlled selection over the proved library: tables, plans, draws, campaigns and variances.
 
     stored = lufodimi.plan(2, 2, 10, [3, 4, 5, 6])      # rows, columns, denominator, cells in row order; bytes to keep
     campaign = lufodimi.Campaign(lufodimi.Plan(stored))
@@ -21,8 +21,8 @@ import os
 import pathlib
 import secrets
 import struct
-from ctypes import POINTER, c_char_p, c_size_t, c_uint8, c_uint16, c_uint32
-from typing import Iterable
+from ctypes import POINTER, c_char_p, c_int64, c_size_t, c_uint8, c_uint16, c_uint32
+from typing import Iterable, NamedTuple
 
 LONGEST_PLAN, SHORTEST_PLAN, MOST_CELLS = 50_912, 30, 144
 # A stored record: how it begins (LUFR, form 1, zero), how many numbers are taken, how many bytes of bits and sums of the tally follow.
@@ -68,6 +68,7 @@ _library.lufodimi_plan.argtypes = _table + _plan
 _library.lufodimi_sizes.argtypes = _plan + _words
 _library.lufodimi_cells.argtypes = _plan + _words
 _library.lufodimi_draw.argtypes = _plan + [c_uint32] + _counts
+_library.lufodimi_variances.argtypes = _plan + [POINTER(c_int64), c_size_t]
 _library.lufodimi_start.argtypes = _plan + _record
 _library.lufodimi_campaign_draw.argtypes = _plan + [c_uint32] + _record + _counts
 
@@ -116,6 +117,15 @@ def plan(rows: int, columns: int, denominator: int, cells: Iterable[int]) -> byt
     return stored.raw[:length]
 
 
+class Variances(NamedTuple):
+    """How much the cells of a plan vary, exactly: the sum of all cell variances, and the smallest and the largest covariance of two different cells (0 and 0
+    if there is one cell), as numerators over the squared denominator. A covariance is negative if one cell tends to replace the other."""
+
+    variance_sum: int
+    smallest_covariance: int
+    largest_covariance: int
+
+
 class Plan:
     """An opened plan, whoever made it: its bytes `stored`, and its `rows`, `columns`, `arrays` (how many), `denominator` and `cells`. Refusals 5 and 6: it opens
     if each array keeps every cell, row, column and the whole at its expectation rounded down or up, and weights and weighted arrays add up."""
@@ -139,6 +149,12 @@ class Plan:
         counts = (c_uint16 * len(self._cells))()
         _call("draw", self.stored, len(self.stored), _word(number), counts, len(counts))
         return list(counts)
+
+    def variances(self) -> Variances:
+        """The sum of all cell variances, the smallest and the largest covariance of two different cells: numerators over the squared denominator."""
+        numerators = (c_int64 * 3)()
+        _call("variances", self.stored, len(self.stored), numerators, 3)
+        return Variances(*numerators)
 
 
 class Campaign:

@@ -111,6 +111,30 @@ class Tests(unittest.TestCase):
         plan = lufodimi.Plan(bytes.fromhex(begin + "01000000010000000100000000000000 0100000000000000 0000010001000000"))
         self.assertEqual((plan.denominator, plan.cells), (2, [1, 1, 1, 0]))
         self.assertEqual([plan.draw(0), plan.draw(1)], [[1, 0, 0, 0], [0, 1, 1, 0]])
+        self.assertEqual(plan.variances(), (3, -1, 1))
+
+    def test_variances(self):
+        variances = lufodimi.Plan(lufodimi.plan(2, 2, 10, CELLS)).variances()
+        self.assertEqual(variances, (94, -24, 20))
+        self.assertEqual((variances.variance_sum, variances.smallest_covariance, variances.largest_covariance), (94, -24, 20))
+        self.assertEqual(lufodimi.Plan(lufodimi.plan(1, 1, 3, [2])).variances(), (2, 0, 0))
+        self.assertEqual(lufodimi.Plan(lufodimi.plan(1, 2, 10, [3, 4])).variances(), (45, -12, -12))
+        # above 32 bits: each cell has the variance 32,767 times 32,768
+        largest = lufodimi.Plan(lufodimi.plan(12, 12, 65_535, [32_767] * 144)).variances()
+        self.assertEqual(largest.variance_sum, 144 * 32_767 * 32_768)
+
+    def test_variances_from_all_draws(self):
+        for rows, columns, denominator, cells in ((3, 4, 10, STANDING), (3, 4, 20, POOLED), (2, 3, 1_000, [300_400, 70, 65_936, 1_500, 260, 999])):
+            plan = lufodimi.Plan(lufodimi.plan(rows, columns, denominator, cells))
+            by_cell = list(zip(*(plan.draw(number) for number in range(denominator))))
+
+            def covariance(a, b):
+                return denominator * sum(one * other for one, other in zip(by_cell[a], by_cell[b])) - cells[a] * cells[b]
+
+            places = range(rows * columns)
+            different = [covariance(a, b) for a in places for b in places if a != b]
+            self.assertEqual(plan.variances(), (sum(covariance(a, a) for a in places), min(different), max(different)))
+            self.assertEqual(plan.variances().variance_sum, sum(cell % denominator * (denominator - cell % denominator) for cell in cells))
 
     def test_refusals_of_a_number(self):
         plan = lufodimi.Plan(lufodimi.plan(2, 2, 10, CELLS))

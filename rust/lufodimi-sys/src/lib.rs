@@ -38,6 +38,7 @@ mod parts;
 mod plan;
 mod pool;
 mod round;
+mod variances;
 
 pub use campaign::{campaign_draw, lufodimi_campaign_draw, lufodimi_record, lufodimi_start, start};
 pub use draw::{draw, lufodimi_draw};
@@ -46,3 +47,4 @@ pub use parts::{cells, lufodimi_cells, lufodimi_sizes, sizes};
 pub use plan::{lufodimi_plan, plan, LUFODIMI_LONGEST_PLAN};
 pub use pool::{lufodimi_pool, pool};
 pub use round::{lufodimi_round, round};
+pub use variances::{lufodimi_variances, variances};

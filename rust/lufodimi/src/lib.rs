@@ -10,9 +10,11 @@ mod plan;
 mod record;
 mod refusal;
 mod table;
+mod variances;
 
 pub use campaign::{Campaign, Remaining};
 pub use plan::Plan;
 pub use record::{Record, RecordError};
 pub use refusal::Refusal;
 pub use table::Table;
+pub use variances::Variances;

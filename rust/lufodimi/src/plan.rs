@@ -1,5 +1,5 @@
 use crate::refusal::accepted;
-use crate::{Refusal, Table};
+use crate::{Refusal, Table, Variances};
 use alloc::vec;
 use alloc::vec::Vec;
 use lufodimi_sys::LUFODIMI_LONGEST_PLAN;
@@ -204,6 +204,78 @@ impl Plan {
         let mut counts = vec![0; self.cells().len()];
         accepted(lufodimi_sys::draw(&self.bytes, number, &mut counts))?;
         Ok(counts)
+    }
+
+    /// The sum of all cell variances, and the smallest and the largest covariance of two
+    /// different cells, as numerators over the squared denominator.
+    ///
+    /// ```
+    /// use lufodimi::{Plan, Table};
+    ///
+    /// let variances = Plan::of(&Table::new(1, 1, 3, [2])?).variances();
+    /// assert_eq!(variances.variance_sum, 2); // 2 over 9
+    /// assert_eq!(variances.smallest_covariance, 0);
+    /// assert_eq!(variances.largest_covariance, 0);
+    /// # Ok::<(), lufodimi::Refusal>(())
+    /// ```
+    pub fn variances(&self) -> Variances {
+        let mut numerators = [0; 3];
+        // The plan opened and there is room for three numbers: that no refusal applies
+        // then is proved of the library.
+        accepted(lufodimi_sys::variances(&self.bytes, &mut numerators))
+            .expect("a plan that opened has variances");
+        let [variance_sum, smallest_covariance, largest_covariance] = numerators;
+        Variances {
+            variance_sum,
+            smallest_covariance,
+            largest_covariance,
+        }
+    }
+
+    /// The covariance of two cells, given by their places in row order from 0, as a
+    /// numerator over the squared denominator: the denominator times the weighted sum of
+    /// the products of their counts, minus the product of their table cells. It is negative
+    /// if one tends to replace the other. Of a cell with itself it is the variance. There is
+    /// none if there is no such cell.
+    ///
+    /// ```
+    /// use lufodimi::{Plan, Table};
+    ///
+    /// let plan = Plan::of(&Table::new(2, 2, 10, [3, 4, 5, 6])?);
+    /// assert_eq!(plan.covariance(1, 2), Some(20));
+    /// assert_eq!(plan.covariance(1, 3), Some(-24));
+    /// assert_eq!(plan.covariance(1, 1), Some(24)); // 4 times 10 - 4
+    /// assert_eq!(plan.covariance(1, 4), None);
+    /// # Ok::<(), lufodimi::Refusal>(())
+    /// ```
+    pub fn covariance(&self, a: usize, b: usize) -> Option<i64> {
+        let cell = |place: usize| self.cells().get(place).copied().map(i64::from);
+        let of_table = cell(a)? * cell(b)?;
+        let sum: i64 = (0..self.arrays as usize)
+            .map(|array| self.weight(array) * self.count(array, a) * self.count(array, b))
+            .sum();
+        Some(i64::from(self.denominator()) * sum - of_table)
+    }
+
+    /// The weight of an array, counted from 0.
+    fn weight(&self, array: usize) -> i64 {
+        self.stored::<4>(16 + 8 * array)
+    }
+
+    /// The count of a cell in an array, both counted from 0. The array's counts stand where
+    /// the number after its weight points.
+    fn count(&self, array: usize, cell: usize) -> i64 {
+        let begin = self.stored::<4>(20 + 8 * array) as usize;
+        self.stored::<2>(begin + 2 * cell)
+    }
+
+    /// The number of so many bytes at this place of the stored plan, low byte first. The
+    /// plan opened, so that each number is where its form says.
+    fn stored<const WIDTH: usize>(&self, place: usize) -> i64 {
+        self.bytes[place..][..WIDTH]
+            .iter()
+            .rev()
+            .fold(0, |number, &byte| number << 8 | i64::from(byte))
     }
 }
 
