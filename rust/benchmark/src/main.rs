@@ -4,6 +4,7 @@ mod campaign;
 mod draw;
 mod open;
 mod plan;
+mod variances;
 
 use benchmark::inputs;
 
@@ -14,4 +15,5 @@ fn main() {
     open::measure(&plans);
     draw::measure(&plans);
     campaign::measure(&plans);
+    variances::measure(&plans);
 }
