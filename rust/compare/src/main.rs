@@ -11,6 +11,7 @@ mod plan;
 mod pool;
 mod print;
 mod round;
+mod variances;
 
 use compare::cases::{case_seed, Calls, Difference, Kind, Named};
 use compare::request::Request;
@@ -27,6 +28,7 @@ const CALLS: &[(&[Kind], &[Named])] = &[
     (draw::KINDS, draw::NAMED),
     (campaign::KINDS, campaign::NAMED),
     (print::KINDS, print::NAMED),
+    (variances::KINDS, variances::NAMED),
 ];
 
 fn main() -> ExitCode {

@@ -6,8 +6,7 @@ use compare::buffer::Buffer;
 use compare::cases::{Call, Calls, Difference, Kind, Named};
 use compare::damage::{change_field, fields};
 use compare::plans::{
-    exchange, merge, move_units, plan_of, random_plan, split, split_fully, split_off, stated_plan,
-    swing,
+    make_foreign, plan_of, random_plan, split_fully, split_off, stated_plan, swing,
 };
 use reference::{encode, number_of, Plan, Table};
 use tables::papers::{self, Example};
@@ -125,13 +124,7 @@ fn planned(generator: &mut Generator, calls: &mut Calls) -> Result<(), Differenc
 fn foreign(generator: &mut Generator, calls: &mut Calls) -> Result<(), Difference> {
     let mut plan = random_plan(generator, 5);
     for _ in 0..6 {
-        match generator.below(6) {
-            0 => generator.shuffle(&mut plan.arrays),
-            1 => merge(&mut plan),
-            2 => exchange(generator, &mut plan),
-            3 => move_units(generator, &mut plan),
-            _ => split(generator, &mut plan),
-        }
+        make_foreign(generator, &mut plan);
         compare_bytes(generator, calls, &encode(&plan))?;
     }
     Ok(())

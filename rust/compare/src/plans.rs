@@ -47,8 +47,19 @@ pub fn random_opening_plan(generator: &mut Generator, largest: u32) -> Plan {
     plan
 }
 
+/// Changes a plan as somebody else may have made it; it need not open.
+pub fn make_foreign(generator: &mut Generator, plan: &mut Plan) {
+    match generator.below(6) {
+        0 => generator.shuffle(&mut plan.arrays),
+        1 => merge(plan),
+        2 => exchange(generator, plan),
+        3 => move_units(generator, plan),
+        _ => split(generator, plan),
+    }
+}
+
 /// Splits an array into two equal ones that share its weight, unless it is 1.
-pub fn split(generator: &mut Generator, plan: &mut Plan) {
+fn split(generator: &mut Generator, plan: &mut Plan) {
     let chosen = generator.place(plan.arrays.len());
     let weight = plan.arrays[chosen].weight;
     if weight > 1 {
@@ -81,7 +92,7 @@ pub fn split_fully(plan: &mut Plan) {
 }
 
 /// Makes one array of all that equal the first.
-pub fn merge(plan: &mut Plan) {
+fn merge(plan: &mut Plan) {
     let counts = plan.arrays[0].counts.clone();
     let is_equal = |array: &Array| array.counts == counts;
     let weight = plan
@@ -114,7 +125,7 @@ fn even_out(plan: &mut Plan, one: usize, other: usize) {
 
 /// Lets two arrays of equal weight exchange some counts. Every cell stays balanced
 /// and within its bounds, but totals may leave theirs.
-pub fn exchange(generator: &mut Generator, plan: &mut Plan) {
+fn exchange(generator: &mut Generator, plan: &mut Plan) {
     let (one, other) = two_of_equal_weight(generator, plan);
     for _ in 0..generator.between(1, 4) {
         let cell = generator.place(plan.table.size());
@@ -163,7 +174,7 @@ fn swings(plan: &Plan) -> Vec<(usize, usize, usize)> {
 /// Moves units between the corners of a rectangle of cells, in one array one way and
 /// in another of equal weight the other way. Every cell stays balanced and every
 /// total as it is, but cells may leave their bounds.
-pub fn move_units(generator: &mut Generator, plan: &mut Plan) {
+fn move_units(generator: &mut Generator, plan: &mut Plan) {
     let (one, other) = two_of_equal_weight(generator, plan);
     let (rows, columns) = (plan.table.rows, plan.table.columns);
     let (top, bottom) = (generator.place(rows), generator.place(rows));
