@@ -37,7 +37,7 @@ copy="$room/copy"
 fresh() {
     rm -rf "$copy" "$room/calls" "$room/turns" "$room/refuse"
     mkdir "$copy"
-    cp -r "$repository/crates" "$repository/crates.txt" "$repository/scripts" "$repository/print-plan" "$copy"
+    cp -r "$repository/crates" "$repository/crates.txt" "$repository/scripts" "$repository/print-plan" "$repository/plan-variances" "$copy"
     cd "$copy" || exit 2
 }
 calls() { if [ -e "$room/calls" ]; then wc -l < "$room/calls"; else echo 0; fi; }
