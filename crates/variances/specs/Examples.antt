@@ -1,4 +1,4 @@
--- Literal cases of the call "variances" (specification, "Variances"); the plans' bytes are typed out, and the numerators are found by hand. Assumes nothing.
+-- Literal cases of the call "variances" (specification, "Variances"); the plans' bytes and the numerators are typed out, and no definition of this project finds them. Assumes nothing.
 use mathlib.Core.List.{List, [], _∷_, _++_}
 use Prim.Native.Nat.{ℕ}
 use lib.IntN.{ℤ, pos, negℤ}
