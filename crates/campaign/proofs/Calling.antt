@@ -31,12 +31,13 @@ use Rattle.opening.specs.Open.{openTests, openRefusal, Opens, openAnswer, drawn
 use Rattle.form.specs.Parts.{Sized}
 use Rattle.form.proofs.Sizing.{cells-are, denominator-is, sized-denominator}
 use Rattle.opening.proofs.Opening.{is-open, is-refused, opens-layout, opens-by, opens-answer, opened-sized, sizes-product}
-use Rattle.campaign.specs.Record.{CampaignRecord, recordOf, bitOf, bitBytes, roomFor, spareClear, takenSum, fits, startTests, startRefusal, cleared, campaignRefusal, taking}
-use Rattle.campaign.specs.Calls.{started, ask, made, Starts, Draws}
-use Rattle.campaign.specs.Parts.{Unset, sizesOr, Addends, Fitted}
+use Rattle.records.specs.Record.{CampaignRecord, recordOf, bitOf, bitBytes, roomFor, spareClear, takenSum, fits}
+use Rattle.campaign.specs.Calls.{startTests, startRefusal, cleared, campaignRefusal, taking, started, ask, made, Starts, Draws}
+use Rattle.records.specs.Parts.{Unset, Fitted}
+use Rattle.campaign.specs.Parts.{sizesOr, Addends}
 use Rattle.opening.proofs.Sound.{sound}
-use Rattle.campaign.proofs.Long.{room-bits, room-tally}
-use Rattle.campaign.proofs.Numbers.{array-length, count-room, tally-room}
+use Rattle.records.proofs.Long.{room-bits, room-tally}
+use Rattle.records.proofs.Numbers.{array-length, count-room, tally-room}
 
 -- zeros at the start of a buffer
 zeros : (n : ℕ) → tabulate {A = ℕ} n (λ i. 0) ≡ replicate n 0

@@ -8,8 +8,8 @@ use Rattle.refusals.specs.Due.{due, answerOf, after}
 use Rattle.form.specs.Plan.{arrayFor}
 use Rattle.form.specs.Form.{number, decode, headRight, laidOut}
 use Rattle.opening.specs.Open.{consistent}
-use Rattle.campaign.specs.Record.{bitOf, fits, startRefusal, cleared, campaignRefusal, taking}
-use Rattle.campaign.specs.Calls.{started, made}
+use Rattle.records.specs.Record.{bitOf, fits}
+use Rattle.campaign.specs.Calls.{startRefusal, cleared, campaignRefusal, taking, started, made}
 use Rattle.campaign.specs.Examples.{outcomeOf, starts, draws}
 
 pub starts-hold : map (λ r. outcomeOf (r .plan) (r .given) (r .call)) starts ≡ map (λ r. r .outcome) starts

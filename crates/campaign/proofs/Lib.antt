@@ -1,6 +1,2 @@
-pub mod Bits
-pub mod Long
-pub mod Numbers
 pub mod Examples
-pub mod Fitting
 pub mod Calling

@@ -1,15 +1,60 @@
--- A start and a campaign draw: what each answers and leaves (specification, "Campaign record" and "Refusals"). The code is equated with these, and a run is made
--- of them. Assumes nothing.
+-- A start and a campaign draw: when each is refused, what it answers and what it leaves (specification, "Campaign record" and "Refusals"). The code is equated
+-- with these, and a run is made of them. Assumes nothing.
 use mathlib.Core.Path.{_≡_}
-use mathlib.Core.List.{List}
-use Prim.Native.Nat.{ℕ}
-use lib.ListN.{length}
+use mathlib.Core.Bool.{not}
+use mathlib.Core.List.{List, [], _∷_, _++_}
+use mathlib.Core.Option.{Option}
+use Prim.Native.Nat.{ℕ, _+_, _/_, _%_, _^_}
+use lib.ListN.{length, getD, set, replicate}
+use lib.Dec.{leb, ltb, eqb}
+use Rattle.base.specs.Lists.{tabulate}
 use Rattle.base.specs.Buffers.{written}
 use Rattle.refusals.specs.declared.Answer.{Answer}
-use Rattle.refusals.specs.Due.{answerOf, after}
+use Rattle.refusals.specs.declared.Refusal.{Refusal}
+use Rattle.refusals.specs.declared.Refusal.the-variants.{Buffer, Number, Record, Taken}
+use Rattle.refusals.specs.Due.{Test, refuse, due, answerOf, after}
+use Rattle.form.specs.Plan.{Plan, cellCount, arrayFor}
 use Rattle.form.specs.Form.{decode}
-use Rattle.opening.specs.Open.{drawnArray}
-use Rattle.campaign.specs.Record.{CampaignRecord, startRefusal, cleared, campaignRefusal, taking}
+use Rattle.opening.specs.Open.{openTests, drawnArray}
+use Rattle.records.specs.Record.{CampaignRecord, bitOf, bitBytes, fits, roomFor}
+
+-- the refusals of the call "campaign start": those of opening; 7, a buffer of the record is too short
+abbrev pub startTests : List ℕ → CampaignRecord → List Test
+startTests b s = openTests b ++ (refuse Buffer (not (roomFor (decode b) s)) ∷ [])
+
+unfoldable pub startRefusal : List ℕ → CampaignRecord → Option Refusal
+startRefusal b s = due (startTests b s)
+
+-- a start sets the record to zero, and leaves what its buffers have beyond it
+unfoldable pub cleared : Plan → CampaignRecord → CampaignRecord
+cleared p s = record {
+  taken = 0;
+  bits = written (replicate (bitBytes (p .denominator)) 0) (s .bits);
+  tally = written (replicate (cellCount p) 0) (s .tally);
+}
+
+-- the refusals of the call "campaign draw", with a buffer of `room` counts for the array: those of a start; 7, this buffer is too short;
+-- 8, the number is not below D; 9, the record does not fit the plan; 10, the number is taken
+abbrev pub campaignTests : List ℕ → ℕ → CampaignRecord → ℕ → List Test
+campaignTests b d s room =
+    let p = decode b in
+    startTests b s
+    ++ (refuse Buffer (ltb room (cellCount p))
+    ∷ refuse Number (leb (p .denominator) d)
+    ∷ refuse Record (not (fits p s))
+    ∷ refuse Taken (not (eqb (bitOf (s .bits) d) 0))
+    ∷ [])
+
+unfoldable pub campaignRefusal : List ℕ → ℕ → CampaignRecord → ℕ → Option Refusal
+campaignRefusal b d s room = due (campaignTests b d s room)
+
+-- an accepted draw of number d: one more is taken, its bit is set, and its array is added to the tally
+unfoldable pub taking : Plan → ℕ → CampaignRecord → CampaignRecord
+taking p d s = record {
+  taken = s .taken + 1;
+  bits = set (s .bits) (d / 8) (getD (s .bits) (d / 8) 0 + 2 ^ (d % 8));
+  tally = written (tabulate (cellCount p) (λ i. getD (s .tally) i 0 + getD (arrayFor (p .arrays) d) i 0)) (s .tally);
+}
 
 -- a start that was made: its answer, and the record as it left it
 pub record Started : Type 0 where

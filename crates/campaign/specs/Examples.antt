@@ -4,7 +4,7 @@ use Prim.Native.Nat.{ℕ}
 use lib.ListN.{set}
 use Rattle.refusals.specs.Answer.{answerNumber}
 use Rattle.form.specs.Examples.{square}
-use Rattle.campaign.specs.Record.{CampaignRecord, recordOf}
+use Rattle.records.specs.Record.{CampaignRecord, recordOf}
 use Rattle.campaign.specs.Calls.{started, ask, made}
 
 -- `square`, the third table of the examples, with a weight too large: it does not open, 6; and with a byte more: 5

@@ -1,4 +1,3 @@
-pub mod Record
 pub mod Calls
 pub mod Parts
 pub mod Examples

@@ -3,9 +3,7 @@ ghost use mathlib.Core.Path.{_≡_};
 ghost use mathlib.Core.List.{map};
 ghost use Rattle.campaign.specs.Examples.{outcomeOf, starts, draws};
 
-mod bitset;
 pub mod draw;
-mod fit;
 mod room;
 pub mod start;
 

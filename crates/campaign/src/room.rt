@@ -1,6 +1,7 @@
 // Opening a plan for a campaign: refusals 5 to 7.
 ghost use mathlib.Core.Path.{_≡_};
-ghost use Rattle.campaign.specs.Record.{recordOf, startRefusal};
+ghost use Rattle.records.specs.Record.{recordOf};
+ghost use Rattle.campaign.specs.Calls.{startRefusal};
 ghost use Rattle.campaign.specs.Parts.{sizesOr};
 use opening::Opened;
 use opening::open::open;

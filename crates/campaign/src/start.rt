@@ -3,7 +3,7 @@ ghost use mathlib.Core.Path.{_≡_};
 ghost use Prim.Native.Nat.{_≤_};
 ghost use lib.ListN.{length, replicate};
 ghost use Rattle.base.specs.Buffers.{written};
-ghost use Rattle.campaign.specs.Record.{recordOf};
+ghost use Rattle.records.specs.Record.{recordOf};
 ghost use Rattle.campaign.specs.Calls.{started, Starts};
 use crate::Step;
 use crate::room::open_for;

@@ -12,13 +12,13 @@ use Rattle.base.proofs.Sums.{sum-ext, sum-le, sum-zero, sum-add, sum-mul, sum-s
 use Rattle.form.specs.Plan.{Plan}
 use Rattle.form.specs.Form.{decode}
 use Rattle.opening.specs.Open.{heldTo}
-use Rattle.campaign.specs.Record.{CampaignRecord}
+use Rattle.records.specs.Record.{CampaignRecord}
 use Rattle.campaign.specs.Calls.{Made}
 use Rattle.demands.specs.Runs.{used, accepted, drawn, unused}
 use Rattle.demands.specs.Claim.{Claim}
 use Rattle.base.proofs.Tests.{test-times, test-parts, test-le}
 use Rattle.opening.proofs.Sound.{Sound, sound}
-use Rattle.campaign.proofs.Numbers.{array-entry, planned-sum}
+use Rattle.records.proofs.Numbers.{array-entry, planned-sum}
 use Rattle.demands.proofs.Steps.{RunHolds, step-start}
 use Rattle.demands.proofs.Runs.{start-done, start-left, run-holds, run-each, run-asked}
 

@@ -17,8 +17,8 @@ use Rattle.form.specs.Form.{encode, head, contentsEntry, bytes, number, headRig
 use Rattle.opening.specs.Open.{consistent}
 use Rattle.plan.specs.Rounds.{limitOf, weightOf, without, roundsFrom, planOf}
 use Rattle.plan.proofs.ZeroPlans.{zero-plan}
-use Rattle.campaign.specs.Record.{bitOf, fits, startRefusal, cleared, campaignRefusal, taking}
-use Rattle.campaign.specs.Calls.{started, made}
+use Rattle.records.specs.Record.{bitOf, fits}
+use Rattle.campaign.specs.Calls.{startRefusal, cleared, campaignRefusal, taking, started, made}
 use Rattle.demands.specs.Runs.{draws, lastRecord, used, overAccepted, unused}
 use Rattle.demands.specs.Examples.{examples, computed, ExamplesHold}
 use Rattle.demands.specs.Campaigns.{runs, saidOf}

@@ -19,7 +19,7 @@ use Rattle.rounding.specs.Call.{roundRefusal}
 use Rattle.plan.specs.Call.{planRefusal}
 use Rattle.opening.specs.Open.{openRefusal, drawRefusal}
 use Rattle.parts.specs.Parts.{partRefusal}
-use Rattle.campaign.specs.Record.{startRefusal, campaignRefusal}
+use Rattle.campaign.specs.Calls.{startRefusal, campaignRefusal}
 use Rattle.pool.specs.Pool.{poolRefusal}
 use Rattle.demands.specs.Refusals.{Lowest, Refuses, EachRefuses}
 

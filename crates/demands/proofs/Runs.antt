@@ -19,12 +19,12 @@ use Rattle.refusals.proofs.Dues.{due-second, not-here, not-later}
 use Rattle.form.specs.Plan.{Plan, cellCount}
 use Rattle.form.specs.Form.{decode}
 use Rattle.opening.specs.Open.{openTests, openRefusal, Opens, drawRefusal, drawnArray}
-use Rattle.campaign.specs.Record.{CampaignRecord, bitOf, roomFor, startTests, startRefusal, cleared, campaignRefusal, taking}
-use Rattle.campaign.specs.Calls.{started, Asked, Made, made}
+use Rattle.records.specs.Record.{CampaignRecord, bitOf, roomFor}
+use Rattle.campaign.specs.Calls.{startTests, startRefusal, cleared, campaignRefusal, taking, started, Asked, Made, made}
 use Rattle.demands.specs.Runs.{draws, lastRecord, used}
 use Rattle.demands.specs.Claim.{DrawClaim}
 use Rattle.opening.proofs.Sound.{sound}
-use Rattle.campaign.proofs.Numbers.{array-length}
+use Rattle.records.proofs.Numbers.{array-length}
 use Rattle.demands.proofs.Steps.{RunHolds, fits-run, step-refused, step-accepted}
 
 -- the refusals that a draw of a run can meet

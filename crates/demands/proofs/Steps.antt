@@ -11,7 +11,7 @@ use Rattle.base.specs.Lists.{sum, tabulate, sumTo}
 use Rattle.refusals.specs.declared.Answer.{Answer}
 use Rattle.refusals.specs.declared.Answer.the-variants.{Done, Refused}
 use Rattle.refusals.specs.declared.Refusal.{Refusal}
-use Rattle.campaign.specs.Calls.{Made}
+use Rattle.campaign.specs.Calls.{Made, cleared, taking}
 use Rattle.demands.specs.Runs.{isDone, used, overAccepted}
 use Rattle.demands.specs.Claim.{RecordClaim}
 use lib.ListN.{length, getD, take, replicate, length-set, length-replicate, getD-replicate}
@@ -20,12 +20,12 @@ use borrow.Author.Tests.{eq-eqb, ne-eqb}
 use Rattle.table.specs.Table.{total}
 use Rattle.base.proofs.Lists.{length-tabulate, getD-tabulate, all-tabulate}
 use Rattle.form.specs.Plan.{Plan, cellCount, arrayFor}
-use Rattle.campaign.specs.Record.{CampaignRecord, bitOf, bitBytes, spareClear, takenSum, fits, roomFor, cleared, taking}
+use Rattle.records.specs.Record.{CampaignRecord, bitOf, bitBytes, spareClear, takenSum, fits, roomFor}
 use Rattle.base.proofs.Tests.{test-times, test-or}
 use Rattle.base.proofs.Buffers.{written-at, written-length, written-beyond}
-use Rattle.campaign.proofs.Bits.{bit-set, bit-clear}
+use Rattle.records.proofs.Bits.{bit-set, bit-clear}
 use Rattle.table.proofs.Totals.{total-one}
-use Rattle.campaign.proofs.Long.{room-bits, room-tally}
+use Rattle.records.proofs.Long.{room-bits, room-tally}
 
 used-more : (h : List Made) (t : Made) (d : ℕ) → used (h ++ (t ∷ [])) d ≡ (used h d || isDone (t .answer) && eqb (t .asked .number) d)
 unfolding used

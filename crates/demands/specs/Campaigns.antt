@@ -9,7 +9,7 @@ use Rattle.form.specs.Form.{decode}
 use Rattle.form.specs.Examples.{square}
 use Rattle.opening.specs.Open.{heldTo}
 use Rattle.opening.specs.Examples.{grandVaries}
-use Rattle.campaign.specs.Record.{CampaignRecord, recordOf}
+use Rattle.records.specs.Record.{CampaignRecord, recordOf}
 use Rattle.campaign.specs.Calls.{started, Asked}
 use Rattle.campaign.specs.Examples.{single, any, five}
 use Rattle.demands.specs.Runs.{draws, lastRecord, used, accepted, drawn, unused}

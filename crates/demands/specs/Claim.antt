@@ -16,7 +16,7 @@ use Rattle.refusals.specs.declared.Refusal.{Refusal}
 use Rattle.form.specs.Plan.{Plan, cellCount}
 use Rattle.form.specs.Form.{decode}
 use Rattle.opening.specs.Open.{heldTo, Opens, drawRefusal, drawnArray}
-use Rattle.campaign.specs.Record.{CampaignRecord, bitOf, bitBytes, roomFor}
+use Rattle.records.specs.Record.{CampaignRecord, bitOf, bitBytes, roomFor}
 use Rattle.campaign.specs.Calls.{started, Asked, Made}
 use Rattle.demands.specs.Runs.{draws, lastRecord, used, accepted, drawn, unused}
 

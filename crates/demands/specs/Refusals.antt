@@ -13,7 +13,8 @@ use Rattle.plan.specs.Call.{planTests, planRefusal}
 use Rattle.opening.specs.Open.{openTests, openRefusal, drawTests, drawRefusal}
 use Rattle.parts.specs.Parts.{partTests, partRefusal}
 use Rattle.pool.specs.Pool.{poolTests, poolRefusal}
-use Rattle.campaign.specs.Record.{CampaignRecord, startTests, startRefusal, campaignTests, campaignRefusal}
+use Rattle.records.specs.Record.{CampaignRecord}
+use Rattle.campaign.specs.Calls.{startTests, startRefusal, campaignTests, campaignRefusal}
 
 -- of the conditions of a list, that of x holds, and no condition whose refusal ranks lower does
 pub record Lowest (rank : Refusal → ℕ) (l : List Test) (x : Refusal) : Type 0 where

@@ -9,7 +9,7 @@ use Rattle.table.specs.Table.{total}
 use Rattle.refusals.specs.declared.Answer.{Answer}
 use Rattle.refusals.specs.declared.Answer.the-variants.{Done, Refused}
 use Rattle.form.specs.Plan.{Plan, cellCount, arrayFor}
-use Rattle.campaign.specs.Record.{CampaignRecord}
+use Rattle.records.specs.Record.{CampaignRecord}
 use Rattle.campaign.specs.Calls.{Asked, Made, made}
 
 -- a list of campaign draws, refused ones among them: each gets the same plan, and the record as the call before left it

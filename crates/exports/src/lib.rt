@@ -14,7 +14,7 @@ ghost use Rattle.opening.specs.Open.{openAnswer, openedNumber, drawRefusal, dra
 ghost use Rattle.parts.specs.Parts.{sizeNumbers, partRefusal};
 ghost use Rattle.variances.specs.Covariance.{numerators};
 ghost use Rattle.pool.specs.Pool.{poolRefusal, lent, pooledInto};
-ghost use Rattle.campaign.specs.Record.{recordOf};
+ghost use Rattle.records.specs.Record.{recordOf};
 ghost use Rattle.campaign.specs.Calls.{started, ask, made, Starts, Draws};
 
 // The part of a campaign record that is no buffer: the count of numbers taken.

@@ -11,13 +11,13 @@ use lib.Dec.{eqb, eqb·suc-suc, eqb·zero-suc, eqb·suc-zero}
 use lib.Seq.{getD-set-same, getD-set-other}
 use borrow.Author.Tests.{eq-eqb, ne-eqb}
 use Rattle.base.specs.Buffers.{written}
-use Rattle.campaign.specs.Record.{bitOf}
+use Rattle.records.specs.Record.{bitOf}
 use Rattle.base.proofs.Buffers.{written-at}
 use lib.Pow.{pow-mono}
 use mir.Val.{Fits}
 use mir.Syntax.{w8, w32}
 use Rattle.base.proofs.SumLoops.{Summed, summed-more, summed-all}
-use Rattle.campaign.specs.Parts.{bitsSet}
+use Rattle.records.specs.Parts.{bitsSet}
 
 -- bit k of a number
 unfoldable bit : ℕ → ℕ → ℕ

@@ -1,9 +1,9 @@
 use Prim.Native.Nat.{_≤_, _-_}
-use Rattle.campaign.proofs.Bits.{Set, set-more, set-all, set-fits-more}
+use Rattle.records.proofs.Bits.{Set, set-more, set-all, set-fits-more}
 use Rattle.base.proofs.SumLoops.{summed-none}
 use borrow.Author.Needs.{needs}
-use Rattle.campaign.proofs.bitset.bits_set.Statement.{statement}
-use Rattle.campaign.proofs.bitset.bits_set.Tie as tie
+use Rattle.records.proofs.bitset.bits_set.Statement.{statement}
+use Rattle.records.proofs.bitset.bits_set.Tie as tie
 
 abbrev Inv-loop : tie.InvT-loop
 Inv-loop bits from count sum₀ j₀ sum j = (j ≤ count) × Set bits from j sum

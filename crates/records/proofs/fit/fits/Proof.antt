@@ -1,9 +1,9 @@
 use native.Mathlib.Omega.{arith}
 use Rattle.opening.proofs.Opening.{sizes-product}
-use Rattle.campaign.proofs.Fitting.{spare-asked, count-asked, numbered, sized, tally-length, tally-few, spare-set, count-off, fits-is}
+use Rattle.records.proofs.Fitting.{spare-asked, count-asked, numbered, sized, tally-length, tally-few, spare-set, count-off, fits-is}
 use borrow.Author.Needs.{needs}
-use Rattle.campaign.proofs.fit.fits.Statement.{statement}
-use Rattle.campaign.proofs.fit.fits.Tie as tie
+use Rattle.records.proofs.fit.fits.Statement.{statement}
+use Rattle.records.proofs.fit.fits.Tie as tie
 
 bits-set-requires : tie.Need-bits-set-requires
 bits-set-requires c κs = let q = spare-asked (c .before .before .before .before .pre) in record { begins = omega arith; few = omega arith; room = omega arith }

@@ -1,9 +1,9 @@
 use Rattle.form.proofs.Sizing.{sized-fits}
 use Rattle.opening.proofs.Scratch.{read-within, read-length}
-use Rattle.campaign.proofs.Fitting.{scratch-asked, read-addable, read-added}
+use Rattle.records.proofs.Fitting.{scratch-asked, read-addable, read-added}
 use borrow.Author.Needs.{needs}
-use Rattle.campaign.proofs.fit.add_array.Statement.{statement}
-use Rattle.campaign.proofs.fit.add_array.Tie as tie
+use Rattle.records.proofs.fit.add_array.Statement.{statement}
+use Rattle.records.proofs.fit.add_array.Tie as tie
 
 pub add-array-spec : {M : Type 1} → statement M
 add-array-spec =

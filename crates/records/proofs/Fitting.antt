@@ -34,8 +34,8 @@ use Rattle.opening.proofs.Scratch.{counts-read}
 use Rattle.opening.proofs.Belonging.{array-for}
 use Rattle.opening.proofs.Opening.{is-open, opened-sized}
 use Rattle.opening.proofs.Opens.{weights-add-up}
-use Rattle.campaign.specs.Record.{recordOf, bitOf, bitBytes, spareClear, takenSum, fits}
-use Rattle.campaign.specs.Parts.{bitsSet, Span, takenOf, takenNumbers, Numbered, ArrayAddable, ArraysAdded, Fitted}
+use Rattle.records.specs.Record.{recordOf, bitOf, bitBytes, spareClear, takenSum, fits}
+use Rattle.records.specs.Parts.{bitsSet, Span, takenOf, takenNumbers, Numbered, ArrayAddable, ArraysAdded, Fitted}
 
 -- two numbers compared either way
 eqb-sym : (m n : ℕ) → eqb m n ≡ eqb n m

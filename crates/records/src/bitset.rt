@@ -2,8 +2,8 @@
 ghost use mathlib.Core.Path.{_≡_};
 ghost use Prim.Native.Nat.{_+_, _*_, _/_, _%_, _^_, _<_};
 ghost use lib.ListN.{length, getD, set};
-ghost use Rattle.campaign.specs.Record.{bitOf};
-ghost use Rattle.campaign.specs.Parts.{bitsSet, Span, Unset};
+ghost use Rattle.records.specs.Record.{bitOf};
+ghost use Rattle.records.specs.Parts.{bitsSet, Span, Unset};
 
 // Bit d, 0 or 1.
 pub fn bit(bits: &[u8], d: usize) -> u32

@@ -2,10 +2,10 @@ use Prim.Native.Nat.{_≤_, _-_}
 use mathlib.Core.Path.{_≡_}
 use lib.ListN.{length}
 use Rattle.form.specs.Form.{decode}
-use Rattle.campaign.proofs.Fitting.{arrays-end, array-there, array-place, array-scaled, Along, along-none, along-room, along-fits, along-more, along-all}
+use Rattle.records.proofs.Fitting.{arrays-end, array-there, array-place, array-scaled, Along, along-none, along-room, along-fits, along-more, along-all}
 use borrow.Author.Needs.{needs}
-use Rattle.campaign.proofs.fit.taken_numbers.Statement.{statement}
-use Rattle.campaign.proofs.fit.taken_numbers.Tie as tie
+use Rattle.records.proofs.fit.taken_numbers.Statement.{statement}
+use Rattle.records.proofs.fit.taken_numbers.Tie as tie
 
 abbrev Inv-loop : tie.InvT-loop
 Inv-loop plan bits taken₀ at₀ k₀ k-end taken at k = (k ≤ k-end) × (k-end ≡ length (decode plan .arrays)) × Along plan bits taken k at

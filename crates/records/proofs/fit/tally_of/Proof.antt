@@ -4,10 +4,10 @@ use lib.ListN.{length, getD}
 use Rattle.form.specs.Plan.{cellCount}
 use Rattle.form.specs.Form.{decode}
 use Rattle.opening.specs.Parts.{SumsTo}
-use Rattle.campaign.proofs.Fitting.{arrays-end, array-place, array-scaled, added-none, array-addable, added-more, added-all}
+use Rattle.records.proofs.Fitting.{arrays-end, array-place, array-scaled, added-none, array-addable, added-more, added-all}
 use borrow.Author.Needs.{needs}
-use Rattle.campaign.proofs.fit.tally_of.Statement.{statement}
-use Rattle.campaign.proofs.fit.tally_of.Tie as tie
+use Rattle.records.proofs.fit.tally_of.Statement.{statement}
+use Rattle.records.proofs.fit.tally_of.Tie as tie
 
 abbrev Inv-loop : tie.InvT-loop
 Inv-loop plan s taken sums₀ k₀ k-end sums k = (k ≤ k-end) × (k-end ≡ length (decode plan .arrays)) × SumsTo (λ j. getD taken j 0) (decode plan .arrays) (cellCount (decode plan)) k sums

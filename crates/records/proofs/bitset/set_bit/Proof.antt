@@ -1,9 +1,9 @@
 use native.Mathlib.Omega.{arith}
 use Prim.Native.Nat.{_/_}
-use Rattle.campaign.proofs.Bits.{set-fits, set-is}
+use Rattle.records.proofs.Bits.{set-fits, set-is}
 use borrow.Author.Needs.{needs}
-use Rattle.campaign.proofs.bitset.set_bit.Statement.{statement}
-use Rattle.campaign.proofs.bitset.set_bit.Tie as tie
+use Rattle.records.proofs.bitset.set_bit.Statement.{statement}
+use Rattle.records.proofs.bitset.set_bit.Tie as tie
 
 add-bits : tie.Need-add-bits
 add-bits c =

@@ -1,10 +1,10 @@
 use mathlib.Core.Path.{refl}
 use Prim.Native.Nat.{_/_}
 use native.Mathlib.Omega.{arith}
-use Rattle.campaign.specs.Record.{bitOf}
+use Rattle.records.specs.Record.{bitOf}
 use borrow.Author.Needs.{needs}
-use Rattle.campaign.proofs.bitset.bit.Statement.{statement}
-use Rattle.campaign.proofs.bitset.bit.Tie as tie
+use Rattle.records.proofs.bitset.bit.Statement.{statement}
+use Rattle.records.proofs.bitset.bit.Tie as tie
 
 cast-result : tie.Need-cast-result
 cast-result c = omega (arith, c .shared-slice-known .given (c .before .args .d / 8))

@@ -7,7 +7,7 @@ use lib.Dec.{leb}
 use borrow.Author.Tests.{leb-true}
 use Rattle.base.proofs.Lists.{and-left, and-right}
 use Rattle.form.specs.Plan.{Plan, cellCount}
-use Rattle.campaign.specs.Record.{CampaignRecord, bitBytes, roomFor}
+use Rattle.records.specs.Record.{CampaignRecord, bitBytes, roomFor}
 
 module _ (p : Plan) (s : CampaignRecord) (room : roomFor p s ≡ true) where
   pub room-bits : bitBytes (p .denominator) ≤ length (s .bits)

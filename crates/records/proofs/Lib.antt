@@ -1,0 +1,4 @@
+pub mod Bits
+pub mod Long
+pub mod Numbers
+pub mod Fitting
