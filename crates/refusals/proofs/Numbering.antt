@@ -2,7 +2,7 @@
 use Prim.Native.Nat.{_<_}
 use native.Mathlib.Omega.{arith}
 use Rattle.refusals.specs.declared.Refusal.{Refusal}
-use Rattle.refusals.specs.declared.Refusal.the-variants.{Size, Denominator, CellCount, LargeCell, Layout, Content, Buffer, Number, Record, Taken, Multiple, PooledCell}
+use Rattle.refusals.specs.declared.Refusal.the-variants.{Size, Denominator, CellCount, LargeCell, Layout, Content, Buffer, Number, Record, Taken, Multiple, PooledCell, Rounds}
 use Rattle.refusals.specs.Numbers.{numberOf}
 
 pub number-small : (x : Refusal) → numberOf x < 30
@@ -18,3 +18,4 @@ number-small Record = omega arith
 number-small Taken = omega arith
 number-small Multiple = omega arith
 number-small PooledCell = omega arith
+number-small Rounds = omega arith

@@ -34,6 +34,8 @@ pub enum Refusal {
     Multiple,
     // a pooled cell above 1000 times the pooled denominator
     PooledCell,
+    // all rounds of the campaign are done
+    Rounds,
 }
 
 // What a call answers that returns nothing but its success.
@@ -59,6 +61,7 @@ pub fn number(r: Refusal) -> u32
         Refusal::Taken => 10,
         Refusal::Multiple => 11,
         Refusal::PooledCell => 12,
+        Refusal::Rounds => 13,
     }
 }
 
