@@ -3,23 +3,24 @@ use mathlib.Core.Path.{_≡_, refl, sym, ap, _∙_}
 use mathlib.Core.Bool.{Bool, true, false, not, _&&_}
 use mathlib.Core.List.{List, [], _∷_, _++_}
 use mathlib.Core.Option.{Option, some, none}
-use Prim.Native.Nat.{ℕ, zero, suc, _+_, _*_, _/_, _%_, _^_, _<_, _≤_}
+use Prim.Native.Nat.{ℕ, _+_, _*_, _/_, _%_, _^_, _<_, _≤_}
+use native.Mathlib.Nat.{mul-le-mul}
 use native.Mathlib.Omega.{arith}
-use lib.ListN.{length, getD, set, replicate}
+use lib.ListN.{length, getD, set, replicate, length-set}
 use lib.Dec.{leb, ltb, eqb}
 use mir.Val.{Fits}
-use mir.Syntax.{w32, w64}
+use mir.Syntax.{w64}
 use borrow.Author.Tests.{le-leb, lt-leb, leb-false, lt-ltb, le-ltb, ltb-false, eqb-true, eq-eqb, ne-eqb, not-true, not-false}
 use Rattle.base.specs.Lists.{tabulate, sumTo}
 use Rattle.base.specs.Buffers.{written}
 use Rattle.base.specs.Fill.{Filled}
 use Rattle.base.proofs.Lists.{and-left, and-right, tabulate-ext, tabulate-all}
-use Rattle.base.proofs.Filling.{front-more, front-all}
+use Rattle.base.proofs.Filling.{front-more}
 use Rattle.base.proofs.Buffers.{written-at, written-length}
 use Rattle.refusals.specs.declared.Answer.{Answer}
 use Rattle.refusals.specs.declared.Answer.the-variants.{Done, Refused}
 use Rattle.refusals.specs.declared.Refusal.{Refusal}
-use Rattle.refusals.specs.declared.Refusal.the-variants.{Buffer, Number, Record, Taken}
+use Rattle.refusals.specs.declared.Refusal.the-variants.{Buffer, Number, Record, Taken, Rounds}
 use Rattle.refusals.specs.Due.{Test, refuse, due, after, Answers}
 use Rattle.refusals.proofs.Dues.{due-first, due-second, not-here, not-later, refused-so, accepted-so}
 use Rattle.form.specs.declared.Sizes.{Sizes}
@@ -31,25 +32,14 @@ use Rattle.opening.specs.Open.{openTests, openRefusal, Opens, openAnswer, drawn
 use Rattle.form.specs.Parts.{Sized}
 use Rattle.form.proofs.Sizing.{cells-are, denominator-is, sized-denominator}
 use Rattle.opening.proofs.Opening.{is-open, is-refused, opens-layout, opens-by, opens-answer, opened-sized, sizes-product}
-use Rattle.records.specs.Record.{CampaignRecord, recordOf, bitOf, bitBytes, roomFor, spareClear, takenSum, fits}
-use Rattle.campaign.specs.Calls.{startTests, startRefusal, cleared, campaignRefusal, taking, started, ask, made, Starts, Draws}
+use Rattle.records.specs.Record.{CampaignRecord, recordOf, bitOf, bitBytes, roomFor, spareClear, takenSum, maxRounds, within, fits}
+use Rattle.campaign.specs.Calls.{startTests, startRefusal, cleared, campaignRefusal, taking, closed, started, ask, made, Starts, Draws}
+use Rattle.campaign.specs.declared.Step.{Step}
 use Rattle.records.specs.Parts.{Unset, Fitted}
-use Rattle.campaign.specs.Parts.{sizesOr, Addends}
+use Rattle.campaign.specs.Parts.{sizesOr, Addends, Closable, Closes}
 use Rattle.opening.proofs.Sound.{sound}
 use Rattle.records.proofs.Long.{room-bits, room-tally}
 use Rattle.records.proofs.Numbers.{array-length, count-room, tally-room}
-
--- zeros at the start of a buffer
-zeros : (n : ℕ) → tabulate {A = ℕ} n (λ i. 0) ≡ replicate n 0
-unfolding tabulate
-zeros zero = refl
-zeros (suc n) = ap (λ (l : List ℕ). 0 ∷ l) (zeros n)
-
-pub zeroed : {old now : List ℕ} {i n : ℕ} → Filled (λ j. 0) 0 old now i → i ≤ n → n ≤ i → n ≤ length old → now ≡ written (replicate n 0) old
-zeroed {old} {now} {i} {n} p a b h = front-all p a b h ∙ ap (λ (l : List ℕ). written l old) (zeros n)
-
-pub zeroed-more : {old now : List ℕ} {i n : ℕ} → Filled (λ j. 0) 0 old now i → i < n → n ≤ length old → Filled (λ j. 0) 0 old (set now i 0) (i + 1)
-zeroed-more p h m = front-more p 0 refl h m
 
 -- counts added to the numbers of a buffer
 abbrev pub sumAt : List ℕ → List ℕ → ℕ → ℕ
@@ -59,11 +49,22 @@ module _ {counts old now : List ℕ} {i n x : ℕ} (p : Filled (sumAt counts old
   sum-here : getD now i 0 + x ≡ sumAt counts old i
   sum-here = omega (arith, p .beyond i (omega arith))
 
-  pub sum-fits : Fits w32 (getD now i 0 + x)
+  pub sum-fits : Fits w64 (getD now i 0 + x)
   sum-fits = record { fits = omega (arith, sum-here, a .small i h) }
 
   pub sum-stored : Filled (sumAt counts old) 0 old (set now i (getD now i 0 + x)) (i + 1)
   sum-stored = front-more p _ sum-here h (a .tally-room)
+
+-- the end of a round, and a round that goes on
+module _ {d n rounds : ℕ} {bits : List ℕ} where
+  pub round-going : (n ≡ d → ⊥) → Closes d n rounds bits (record { answer = Done; taken = n; rounds = rounds }) bits
+  unfolding closed
+  round-going h = record { answer = refl; left = λ tally. rw (ne-eqb n d h) }
+
+  pub round-closed : n ≡ d → {bits′ : List ℕ} → bits′ ≡ written (replicate (bitBytes d) 0) bits
+      → Closes d n rounds bits (record { answer = Done; taken = 0; rounds = rounds + 1 }) bits′
+  unfolding closed
+  round-closed h e = record { answer = refl; left = λ tally. rw (eq-eqb n d h, e) }
 
 -- an answer with sizes, or with a refusal, and what is due
 module _ (b : List ℕ) where
@@ -134,18 +135,18 @@ module _ (b : List ℕ) (s : CampaignRecord) (l : List Test) (h : due (startTest
   after-start = not-later _ _ (not-later _ _ (not-later _ _ h))
 
 -- a call that goes on with a plan opened for its record
-module _ (b bits tally : List ℕ) {o : Opened} (is : o ≡ sizesOr b (startRefusal b (recordOf 0 bits tally))) where
+module _ (b bits tally : List ℕ) {o : Opened} (is : o ≡ sizesOr b (startRefusal b (recordOf 0 0 bits tally))) where
   module _ {t : Sizes} (e : o ≡ opened.Plan t) where
     start-sizes : t ≡ sizesOf b
     start-sizes = told-plan b _ (sym is ∙ e) .1
 
-    start-none : (n : ℕ) → startRefusal b (recordOf n bits tally) ≡ none
+    start-none : (n rounds : ℕ) → startRefusal b (recordOf n rounds bits tally) ≡ none
     unfolding startRefusal
-    start-none n = told-plan b _ (sym is ∙ e) .0
+    start-none n rounds = told-plan b _ (sym is ∙ e) .0
 
     pub start-fitted : Fitted t b bits tally
     unfolding startRefusal
-    start-fitted = fitted-of b (recordOf 0 bits tally) [] (start-none 0) start-sizes
+    start-fitted = fitted-of b (recordOf 0 0 bits tally) [] (start-none 0 0) start-sizes
 
     pub start-bits : bitBytes (t .denominator) ≤ length bits
     start-bits = start-fitted .bits-room
@@ -159,9 +160,9 @@ module _ (b bits tally : List ℕ) {o : Opened} (is : o ≡ sizesOr b (startRefu
     pub bit-there : {d : ℕ} → d < t .denominator → d < 8 * length bits
     bit-there h = omega (arith, start-fitted .bits-room)
 
-  module _ (n : ℕ) where
+  module _ (n rounds : ℕ) where
     abbrev given : CampaignRecord
-    given = recordOf n bits tally
+    given = recordOf n rounds bits tally
 
     start-refused : {x : Refusal} → o ≡ opened.Refused x → startRefusal b given ≡ some x
     unfolding startRefusal
@@ -177,9 +178,9 @@ module _ (b bits tally : List ℕ) {o : Opened} (is : o ≡ sizesOr b (startRefu
 
     pub start-leaves : {t : Sizes} → o ≡ opened.Plan t → {bits′ tally′ : List ℕ} → bits′ ≡ written (replicate (bitBytes (t .denominator)) 0) bits
         → tally′ ≡ written (replicate (t .rows * t .columns) 0) tally
-        → Starts (λ a. a) (started b given) Done (recordOf 0 bits′ tally′)
+        → Starts (λ a. a) (started b given) Done (recordOf 0 0 bits′ tally′)
     unfolding cleared decode
-    start-leaves e p q = start-as (accepted-so (start-none e n) (rw (p, q, start-sizes e)))
+    start-leaves e p q = start-as (accepted-so (start-none e n rounds) (rw (p, q, start-sizes e)))
 
     -- the ways of a campaign draw to its answer
     module _ (d room : ℕ) where
@@ -190,9 +191,9 @@ module _ (b bits tally : List ℕ) {o : Opened} (is : o ≡ sizesOr b (startRefu
       module _ {t : Sizes} (e : o ≡ opened.Plan t) where
         draw-by : campaignRefusal b d given room
             ≡ due (refuse Buffer (ltb room (t .rows * t .columns)) ∷ refuse Number (leb (t .denominator) d)
-            ∷ refuse Record (not (fits (decode b) given)) ∷ refuse Taken (not (eqb (bitOf bits d) 0)) ∷ [])
+            ∷ refuse Record (not (fits (decode b) given)) ∷ refuse Rounds (leb maxRounds rounds) ∷ refuse Taken (not (eqb (bitOf bits d) 0)) ∷ [])
         unfolding startRefusal campaignRefusal decode
-        draw-by = rw (start-sizes e) (due-second (startTests b given) _ (start-none e n))
+        draw-by = rw (start-sizes e) (due-second (startTests b given) _ (start-none e n rounds))
 
         pub short-counts : room < t .rows * t .columns → opened.Refused Buffer ≡ sizesOr b (campaignRefusal b d given room)
         unfolding due
@@ -208,36 +209,49 @@ module _ (b bits tally : List ℕ) {o : Opened} (is : o ≡ sizesOr b (startRefu
             unfolding due
             not-fitting q = says-refused b (draw-by ∙ simp (le-ltb _ _ h, lt-leb _ _ l, sym xe ∙ not-true x q))
 
-            module _ (q : not x ≡ false) (y : ℕ) (ye : y ≡ bitOf bits d) where
-              pub is-taken : (y ≡ 0 → ⊥) → opened.Refused Taken ≡ sizesOr b (campaignRefusal b d given room)
+            module _ (q : not x ≡ false) where
+              pub all-done : 1000 ≤ rounds → opened.Refused Rounds ≡ sizesOr b (campaignRefusal b d given room)
               unfolding due
-              is-taken z = says-refused b (draw-by ∙ simp (le-ltb _ _ h, lt-leb _ _ l, sym xe ∙ not-false x q, ne-eqb _ 0 (λ r. z (ye ∙ r))))
+              all-done m = says-refused b (draw-by ∙ simp (le-ltb _ _ h, lt-leb _ _ l, sym xe ∙ not-false x q, le-leb _ _ m))
 
-              pub is-accepted : y ≡ 0 → opened.Plan t ≡ sizesOr b (campaignRefusal b d given room)
-              unfolding due
-              is-accepted z =
-                  says-plan b (draw-by ∙ simp (le-ltb _ _ h, lt-leb _ _ l, sym xe ∙ not-false x q, eq-eqb _ 0 (sym ye ∙ z))) (start-sizes e)
+              module _ (m : rounds < 1000) (y : ℕ) (ye : y ≡ bitOf bits d) where
+                pub is-taken : (y ≡ 0 → ⊥) → opened.Refused Taken ≡ sizesOr b (campaignRefusal b d given room)
+                unfolding due
+                is-taken z =
+                    says-refused b (draw-by ∙ simp (le-ltb _ _ h, lt-leb _ _ l, sym xe ∙ not-false x q, lt-leb _ _ m, ne-eqb _ 0 (λ r. z (ye ∙ r))))
+
+                pub is-accepted : y ≡ 0 → opened.Plan t ≡ sizesOr b (campaignRefusal b d given room)
+                unfolding due
+                is-accepted z =
+                    says-plan b
+                    (draw-by ∙ simp (le-ltb _ _ h, lt-leb _ _ l, sym xe ∙ not-false x q, lt-leb _ _ m, eq-eqb _ 0 (sym ye ∙ z)))
+                    (start-sizes e)
 
 -- what a record that fits is known to hold
 module _ (p : Plan) (s : CampaignRecord) (f : fits p s ≡ true) where
-  abbrev spare : Bool
-  spare = spareClear (p .denominator) (s .bits)
+  abbrev bits-right : Bool
+  bits-right = spareClear (p .denominator) (s .bits)
 
-  abbrev count : Bool
-  count = eqb (s .taken) (sumTo (p .denominator) (bitOf (s .bits)))
+  abbrev count-right : Bool
+  count-right = eqb (s .taken) (sumTo (p .denominator) (bitOf (s .bits)))
+
+  abbrev stands : Bool
+  stands = within (p .denominator) (s .taken) (s .rounds)
 
   fit-count : s .taken ≡ sumTo (p .denominator) (bitOf (s .bits))
   unfolding fits
-  fit-count = eqb-true _ _ (and-right spare count (and-left (spare && count) _ f))
+  fit-count = eqb-true _ _ (and-right bits-right count-right (and-left (bits-right && count-right) stands (and-left (bits-right && count-right && stands) _ f)))
 
-  fit-tally : (i : ℕ) → i < cellCount p → getD (s .tally) i 0 ≡ takenSum p (s .bits) i
+  fit-tally : (i : ℕ) → i < cellCount p → getD (s .tally) i 0 ≡ s .rounds * getD (p .cells) i 0 + takenSum p (s .bits) i
   unfolding fits
   fit-tally i l =
-      eqb-true _ _ (tabulate-all (λ j. eqb (getD (s .tally) j 0) (takenSum p (s .bits) j)) (cellCount p) (λ i. i) (and-right (spare && count) _ f) i l)
+      eqb-true _ _ (tabulate-all (λ j. eqb (getD (s .tally) j 0) (s .rounds * getD (p .cells) j 0 + takenSum p (s .bits) j)) (cellCount p) (λ i. i)
+      (and-right (bits-right && count-right && stands) _ f) i l)
 
 -- a campaign draw, by what is due of it
 module _ (b : List ℕ) (s : CampaignRecord) (d room : ℕ) {o : Opened} (is : o ≡ sizesOr b (campaignRefusal b d s room)) where
-  draw-as : (counts : List ℕ) {counts′ : List ℕ} {r : Answer} {s′ : CampaignRecord} → length counts ≡ room → Answers (campaignRefusal b d s room) (taking (decode b) d s) s r s′
+  draw-as : (counts : List ℕ) {counts′ : List ℕ} {r : Answer} {s′ : CampaignRecord} → length counts ≡ room
+      → Answers (campaignRefusal b d s room) (closed (decode b .denominator) (taking (decode b) d s)) s r s′
       → counts′ ≡ after (campaignRefusal b d s room) (written (drawnArray b d) counts) counts → Draws (λ a. a) (made b s (ask d counts)) r s′ counts′
   unfolding made
   draw-as counts m a e = rw m (record { answer = a .answer; left = a .left; result = e })
@@ -270,7 +284,7 @@ module _ (b : List ℕ) (s : CampaignRecord) (d room : ℕ) {o : Opened} (is : o
     cells = sym (cells-are sized)
 
     rest-due : due (refuse Buffer (ltb room (cellCount (decode b))) ∷ refuse Number (leb (decode b .denominator) d)
-        ∷ refuse Record (not (fits (decode b) s)) ∷ refuse Taken (not (eqb (bitOf (s .bits) d) 0)) ∷ []) ≡ none
+        ∷ refuse Record (not (fits (decode b) s)) ∷ refuse Rounds (leb maxRounds (s .rounds)) ∷ refuse Taken (not (eqb (bitOf (s .bits) d) 0)) ∷ []) ≡ none
     unfolding campaignRefusal
     rest-due = after-start b s _ none-due
 
@@ -283,8 +297,11 @@ module _ (b : List ℕ) (s : CampaignRecord) (d room : ℕ) {o : Opened} (is : o
     fit : fits (decode b) s ≡ true
     fit = not-false _ (not-here _ _ (not-later _ _ (not-later _ _ rest-due)))
 
+    going-on : s .rounds < 1000
+    going-on = leb-false _ _ (not-here _ _ (not-later _ _ (not-later _ _ (not-later _ _ rest-due))))
+
     new : bitOf (s .bits) d ≡ 0
-    new = eqb-true _ 0 (not-false _ (not-here _ _ (not-later _ _ (not-later _ _ (not-later _ _ rest-due)))))
+    new = eqb-true _ 0 (not-false _ (not-here _ _ (not-later _ _ (not-later _ _ (not-later _ _ (not-later _ _ rest-due))))))
 
     few : decode b .denominator ≤ 65535
     few = omega (arith, denominator-is sized, sized-denominator sized)
@@ -302,6 +319,13 @@ module _ (b : List ℕ) (s : CampaignRecord) (d room : ℕ) {o : Opened} (is : o
     pub bit-asked : Unset d (s .bits)
     bit-asked = record { there = omega (arith, fitted .bits-room, denominator-is sized, below); unset = new }
 
+    pub round-asked : {bits′ : List ℕ} → bits′ ≡ set (s .bits) (d / 8) (getD (s .bits) (d / 8) 0 + 2 ^ (d % 8)) → Closable (t .denominator) (s .rounds) bits′
+    round-asked q = record {
+      going = going-on;
+      small = sized-denominator sized;
+      room = omega (arith, fitted .bits-room, ap length q ∙ length-set (s .bits) (d / 8) _);
+    }
+
     pub count-small : s .taken + 1 ≤ 65535
     count-small = omega (arith, fit-count (decode b) s fit, count-room (s .bits) below new, few)
 
@@ -318,7 +342,8 @@ module _ (b : List ℕ) (s : CampaignRecord) (d room : ℕ) {o : Opened} (is : o
         tally-room = fitted .tally-room;
         small = λ i l.
             let l′ : i < cellCount (decode b) = omega (arith, cells) in
-            omega (arith, count-at i l, fit-tally (decode b) s fit i l′, tally-room (sound b opens) (s .bits) below new i, cell-small i l′);
+            let before : s .rounds * getD (decode b .cells) i 0 ≤ 1000 * 65535000 = mul-le-mul (let a : s .rounds ≤ 1000 = omega (arith, going-on) in a) (cell-small i l′) in
+            omega (arith, count-at i l, fit-tally (decode b) s fit i l′, tally-room (sound b opens) (s .bits) below new i, cell-small i l′, before);
       }
 
       tally-is : {tally′ : List ℕ} → tally′ ≡ written (tabulate (t .rows * t .columns) (sumAt counts′ (s .tally))) (s .tally)
@@ -328,9 +353,16 @@ module _ (b : List ℕ) (s : CampaignRecord) (d room : ℕ) {o : Opened} (is : o
           q ∙ ap (λ (l : List ℕ). written l (s .tally)) (tabulate-ext _ _ _ (λ i l. ap (λ (x : ℕ). getD (s .tally) i 0 + x) (count-at i l))
           ∙ ap (λ (n : ℕ). tabulate n (sumAt (drawnArray b d) (s .tally))) cells)
 
+      taken-as : {bits′ tally′ : List ℕ} → tally′ ≡ written (tabulate (t .rows * t .columns) (sumAt counts′ (s .tally))) (s .tally)
+          → bits′ ≡ set (s .bits) (d / 8) (getD (s .bits) (d / 8) 0 + 2 ^ (d % 8)) → recordOf (s .taken + 1) (s .rounds) bits′ tally′ ≡ taking (decode b) d s
+      unfolding taking
+      taken-as p q = rw (q, tally-is p)
+
       -- what it leaves
-      pub draw-leaves : {bits′ tally′ : List ℕ} → tally′ ≡ written (tabulate (t .rows * t .columns) (sumAt counts′ (s .tally))) (s .tally)
-          → bits′ ≡ set (s .bits) (d / 8) (getD (s .bits) (d / 8) 0 + 2 ^ (d % 8))
-          → Draws (λ a. a) (made b s (ask d counts)) Done (recordOf (s .taken + 1) bits′ tally′) counts′
-      unfolding taking after
-      draw-leaves p q = draw-as counts m (accepted-so none-due (rw (q, tally-is p))) (rw none-due w)
+      pub draw-leaves : {bits′ bits″ tally′ : List ℕ} → tally′ ≡ written (tabulate (t .rows * t .columns) (sumAt counts′ (s .tally))) (s .tally)
+          → bits′ ≡ set (s .bits) (d / 8) (getD (s .bits) (d / 8) 0 + 2 ^ (d % 8)) → {r : Step} → Closes (t .denominator) (s .taken + 1) (s .rounds) bits′ r bits″
+          → Draws (λ a. a) (made b s (ask d counts)) (r .answer) (recordOf (r .taken) (r .rounds) bits″ tally′) counts′
+      unfolding after
+      draw-leaves {bits′} {bits″} {tally′} p q c =
+          let is : recordOf (s .taken + 1) (s .rounds) bits′ tally′ ≡ taking (decode b) d s = taken-as p q in
+          rw (c .answer, c .left tally′) (draw-as counts m (accepted-so none-due (rw (is, denominator-is sized))) (rw none-due w))

@@ -1,7 +1,7 @@
 -- A start and a campaign draw: when each is refused, what it answers and what it leaves (specification, "Campaign record" and "Refusals"). The code is equated
 -- with these, and a run is made of them. Assumes nothing.
 use mathlib.Core.Path.{_≡_}
-use mathlib.Core.Bool.{not}
+use mathlib.Core.Bool.{cond, not}
 use mathlib.Core.List.{List, [], _∷_, _++_}
 use mathlib.Core.Option.{Option}
 use Prim.Native.Nat.{ℕ, _+_, _/_, _%_, _^_}
@@ -11,12 +11,12 @@ use Rattle.base.specs.Lists.{tabulate}
 use Rattle.base.specs.Buffers.{written}
 use Rattle.refusals.specs.declared.Answer.{Answer}
 use Rattle.refusals.specs.declared.Refusal.{Refusal}
-use Rattle.refusals.specs.declared.Refusal.the-variants.{Buffer, Number, Record, Taken}
+use Rattle.refusals.specs.declared.Refusal.the-variants.{Buffer, Number, Record, Taken, Rounds}
 use Rattle.refusals.specs.Due.{Test, refuse, due, answerOf, after}
 use Rattle.form.specs.Plan.{Plan, cellCount, arrayFor}
 use Rattle.form.specs.Form.{decode}
 use Rattle.opening.specs.Open.{openTests, drawnArray}
-use Rattle.records.specs.Record.{CampaignRecord, bitOf, bitBytes, fits, roomFor}
+use Rattle.records.specs.Record.{CampaignRecord, recordOf, maxRounds, bitOf, bitBytes, fits, roomFor}
 
 -- the refusals of the call "campaign start": those of opening; 7, a buffer of the record is too short
 abbrev pub startTests : List ℕ → CampaignRecord → List Test
@@ -29,12 +29,13 @@ startRefusal b s = due (startTests b s)
 unfoldable pub cleared : Plan → CampaignRecord → CampaignRecord
 cleared p s = record {
   taken = 0;
+  rounds = 0;
   bits = written (replicate (bitBytes (p .denominator)) 0) (s .bits);
   tally = written (replicate (cellCount p) 0) (s .tally);
 }
 
 -- the refusals of the call "campaign draw", with a buffer of `room` counts for the array: those of a start; 7, this buffer is too short;
--- 8, the number is not below D; 9, the record does not fit the plan; 10, the number is taken
+-- 8, the number is not below D; 9, the record does not fit the plan; 13, 1,000 rounds are done; 10, the number is taken
 abbrev pub campaignTests : List ℕ → ℕ → CampaignRecord → ℕ → List Test
 campaignTests b d s room =
     let p = decode b in
@@ -42,6 +43,7 @@ campaignTests b d s room =
     ++ (refuse Buffer (ltb room (cellCount p))
     ∷ refuse Number (leb (p .denominator) d)
     ∷ refuse Record (not (fits p s))
+    ∷ refuse Rounds (leb maxRounds (s .rounds))
     ∷ refuse Taken (not (eqb (bitOf (s .bits) d) 0))
     ∷ [])
 
@@ -52,9 +54,16 @@ campaignRefusal b d s room = due (campaignTests b d s room)
 unfoldable pub taking : Plan → ℕ → CampaignRecord → CampaignRecord
 taking p d s = record {
   taken = s .taken + 1;
+  rounds = s .rounds;
   bits = set (s .bits) (d / 8) (getD (s .bits) (d / 8) 0 + 2 ^ (d % 8));
   tally = written (tabulate (cellCount p) (λ i. getD (s .tally) i 0 + getD (arrayFor (p .arrays) d) i 0)) (s .tally);
 }
+
+-- and where it took the last free number, the round is completed: a round is added, all numbers are free and the count is 0
+unfoldable pub closed : ℕ → CampaignRecord → CampaignRecord
+closed denominator s = cond (eqb (s .taken) denominator)
+    (recordOf 0 (s .rounds + 1) (written (replicate (bitBytes denominator) 0) (s .bits)) (s .tally))
+    s
 
 -- a start that was made: its answer, and the record as it left it
 pub record Started : Type 0 where
@@ -89,7 +98,7 @@ made b s x =
       asked = x;
       given = s;
       answer = answerOf o;
-      left = after o (taking (decode b) (x .number) s) s;
+      left = after o (closed (decode b .denominator) (taking (decode b) (x .number) s)) s;
       result = after o (written (drawnArray b (x .number)) (x .buffer)) (x .buffer);
     }
 

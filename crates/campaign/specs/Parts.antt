@@ -1,19 +1,40 @@
 -- What inner functions are held to. No public contract cites them. Assumes nothing.
+use mathlib.Core.Path.{_≡_}
 use mathlib.Core.List.{List}
 use mathlib.Core.Option.{Option}
-use Prim.Native.Nat.{ℕ, _+_, _<_, _≤_}
+use Prim.Native.Nat.{ℕ, _+_, _*_, _<_, _≤_}
 use lib.ListN.{length, getD}
+use Rattle.table.specs.Table.{maxDenominator, maxExpected}
+use Rattle.refusals.specs.declared.Answer.the-variants.{Done}
 use Rattle.refusals.specs.declared.Refusal.{Refusal}
 use Rattle.refusals.specs.Due.{refusedOr}
 use Rattle.form.specs.Form.{sizesOf}
 use Rattle.opening.specs.declared.Opened.{Opened}
 use Rattle.opening.specs.declared.Opened.the-variants as opened
+use Rattle.campaign.specs.declared.Step.{Step}
+use Rattle.records.specs.Record.{recordOf, bitBytes, maxRounds}
+use Rattle.campaign.specs.Calls.{closed}
 
--- the first n numbers of two lists fit in 32 bits when added
+-- the most that a tally can come to: the largest cell in each of 1,000 rounds, and in the round that goes on
+abbrev pub maxTally : ℕ
+maxTally = (maxRounds + 1) * (maxExpected * maxDenominator)
+
+-- the first n counts can be added to the first n numbers of a tally
 pub record Addends (n : ℕ) (counts tally : List ℕ) : Type 0 where
   pub counts-room : n ≤ length counts
   pub tally-room : n ≤ length tally
-  pub small : (i : ℕ) → i < n → getD tally i 0 + getD counts i 0 < 4294967296
+  pub small : (i : ℕ) → i < n → getD tally i 0 + getD counts i 0 ≤ maxTally
+
+-- a round that goes on, and bits enough for it
+pub record Closable (denominator rounds : ℕ) (bits : List ℕ) : Type 0 where
+  pub going : rounds < maxRounds
+  pub small : denominator ≤ maxDenominator
+  pub room : bitBytes denominator ≤ length bits
+
+-- what is left, whatever the tally, of a record whose round is completed where no number is free
+pub record Closes (denominator taken rounds : ℕ) (bits : List ℕ) (r : Step) (bits′ : List ℕ) : Type 0 where
+  pub answer : r .answer ≡ Done
+  pub left : (tally : List ℕ) → recordOf (r .taken) (r .rounds) bits′ tally ≡ closed denominator (recordOf taken rounds bits tally)
 
 -- the sizes of the plan that a call goes on with, or the refusal that is due
 unfoldable pub sizesOr : List ℕ → Option Refusal → Opened

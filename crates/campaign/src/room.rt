@@ -7,9 +7,9 @@ use opening::Opened;
 use opening::open::open;
 use refusals::Refusal;
 
-// The sizes of the plan if a start with these buffers is accepted, or the lowest refusal that applies. The count has no part in it.
-pub fn open_for(plan: &[u8], bits: &[u8], tally: &[u32]) -> Opened
-    ensures { λ r. ⌜ r ≡ sizesOr (now (plan .entry)) (startRefusal (now (plan .entry)) (recordOf 0 (now (bits .entry)) (now (tally .entry)))) ⌝ }
+// The sizes of the plan if a start with these buffers is accepted, or the lowest refusal that applies. Count and rounds have no part in it.
+pub fn open_for(plan: &[u8], bits: &[u8], tally: &[u64]) -> Opened
+    ensures { λ r. ⌜ r ≡ sizesOr (now (plan .entry)) (startRefusal (now (plan .entry)) (recordOf 0 0 (now (bits .entry)) (now (tally .entry)))) ⌝ }
 {
     let opened = open(plan);
     match opened {

@@ -8,20 +8,11 @@ ghost use Rattle.campaign.specs.Calls.{started, Starts};
 use crate::Step;
 use crate::room::open_for;
 use opening::Opened;
+use records::bitset::clear_bytes;
 use refusals::Answer;
 
-// Sets the first bytes to zero.
-fn clear_bytes(bytes: &mut [u8], count: usize)
-    requires { ⌜ count ≤ length (now bytes) ⌝ }
-    ensures { λ _. ⌜ now (bytes .exit) ≡ written (replicate count 0) (now (bytes .entry)) ⌝ }
-{
-    for i in 0..count {
-        bytes[i] = 0;
-    }
-}
-
 // Sets the first numbers to zero.
-fn clear_numbers(numbers: &mut [u32], count: usize)
+fn clear_numbers(numbers: &mut [u64], count: usize)
     requires { ⌜ count ≤ length (now numbers) ⌝ }
     ensures { λ _. ⌜ now (numbers .exit) ≡ written (replicate count 0) (now (numbers .entry)) ⌝ }
 {
@@ -30,16 +21,17 @@ fn clear_numbers(numbers: &mut [u32], count: usize)
     }
 }
 
-// Clears the record, whose count is passed and returned by value, or returns the lowest refusal that applies.
-pub fn start(plan: &[u8], taken: u32, bits: &mut [u8], tally: &mut [u32]) -> Step
-    ensures { λ r. ⌜ Starts (λ a. a) (started (now (plan .entry)) (recordOf taken (now (bits .entry)) (now (tally .entry))))
-        (r .answer) (recordOf (r .taken) (now (bits .exit)) (now (tally .exit))) ⌝ }
+// Clears the record, whose count and rounds are passed and returned by value, or returns the lowest refusal that applies.
+pub fn start(plan: &[u8], taken: u32, rounds: u16, bits: &mut [u8], tally: &mut [u64]) -> Step
+    ensures { λ r. ⌜ Starts (λ a. a) (started (now (plan .entry)) (recordOf taken rounds (now (bits .entry)) (now (tally .entry))))
+        (r .answer) (recordOf (r .taken) (r .rounds) (now (bits .exit)) (now (tally .exit))) ⌝ }
 {
     let opened = open_for(plan, bits, tally);
     match opened {
         Opened::Refused(x) => Step {
             answer: Answer::Refused(x),
             taken: taken,
+            rounds: rounds,
         },
         Opened::Plan(s) => {
             let denominator = s.denominator;
@@ -49,6 +41,7 @@ pub fn start(plan: &[u8], taken: u32, bits: &mut [u8], tally: &mut [u32]) -> Ste
             Step {
                 answer: Answer::Done,
                 taken: 0,
+                rounds: 0,
             }
         }
     }

@@ -17,9 +17,9 @@ use Rattle.form.specs.Form.{encode, head, contentsEntry, bytes, number, headRig
 use Rattle.opening.specs.Open.{consistent}
 use Rattle.plan.specs.Rounds.{limitOf, weightOf, without, roundsFrom, planOf}
 use Rattle.plan.proofs.ZeroPlans.{zero-plan}
-use Rattle.records.specs.Record.{bitOf, fits}
-use Rattle.campaign.specs.Calls.{startRefusal, cleared, campaignRefusal, taking, started, made}
-use Rattle.demands.specs.Runs.{draws, lastRecord, used, overAccepted, unused}
+use Rattle.records.specs.Record.{bitOf, within, fits}
+use Rattle.campaign.specs.Calls.{startRefusal, cleared, campaignRefusal, taking, closed, started, made}
+use Rattle.demands.specs.Runs.{draws, lastRecord, used, overAccepted, unused, oneMore, further}
 use Rattle.demands.specs.Examples.{examples, computed, ExamplesHold}
 use Rattle.demands.specs.Campaigns.{runs, saidOf}
 use Rattle.demands.specs.Slips.{SlipsShut, roundsOverCells, mended, drawsCountingAll}
@@ -40,10 +40,10 @@ module _ (d : ℕ) (some : 1 ≤ d) (h : d ≤ 65535) where
 pub examples-hold : ExamplesHold
 examples-hold = record { rows = rows-hold; zeros = zero-plan; cell-taken = taken; cell-above = above }
 
-pub runs-hold : map (λ r. saidOf (r .plan) (r .list)) runs ≡ map (λ r. r .said) runs
-unfolding draws lastRecord used overAccepted unused started made startRefusal cleared campaignRefusal taking fits bitOf sumTo arrayFor due answerOf after number decode headRight laidOut consistent tabulate sum all entryPlaces total whole roundsTo
+pub runs-hold : map (λ r. saidOf (r .plan) (r .given) (r .before) (r .list)) runs ≡ map (λ r. r .said) runs
+unfolding draws lastRecord used overAccepted unused oneMore further started made startRefusal cleared campaignRefusal taking closed within fits bitOf sumTo arrayFor due answerOf after number decode headRight laidOut consistent tabulate sum all entryPlaces total whole roundsTo
 runs-hold = refl
 
 pub slips-shut : SlipsShut
-unfolding roundsOverCells mended drawsCountingAll draws lastRecord overAccepted made campaignRefusal taking fits bitOf sumTo arrayFor due answerOf after encode head contentsEntry bytes joinTo number decode headRight laidOut consistent planOf roundsFrom weightOf limitOf without tabulate sum least all total entryPlaces whole gap roundsTo nthRow nthColumn rank inOrder arrayOf firstOf isRounding firstRounding zipWith
+unfolding roundsOverCells mended drawsCountingAll draws lastRecord overAccepted made campaignRefusal taking closed within fits bitOf sumTo arrayFor due answerOf after encode head contentsEntry bytes joinTo number decode headRight laidOut consistent planOf roundsFrom weightOf limitOf without tabulate sum least all total entryPlaces whole gap roundsTo nthRow nthColumn rank inOrder arrayOf firstOf isRounding firstRounding zipWith
 slips-shut = record { right = refl; wrong = refl; mended-rounds = refl }

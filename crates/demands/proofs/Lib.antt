@@ -1,5 +1,7 @@
 pub mod Lowests
 pub mod Conditions
+pub mod Spending
+pub mod Rounds
 pub mod Steps
 pub mod Runs
 pub mod Campaigns

@@ -79,6 +79,6 @@ each-refuses = record {
   parts = λ b need room. refuses numberOf _ refl;
   draw = λ b d room. refuses numberOf _ refl;
   start = λ b s. refuses numberOf _ refl;
-  campaign-draw = λ b d s room. refuses numberOf _ refl;
+  campaign-draw = λ b d s room. refuses placeOf _ refl;
   pool = λ r c d g e h numbers room. refuses placeOf _ refl;
 }

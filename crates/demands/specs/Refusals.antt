@@ -35,7 +35,7 @@ pub record EachRefuses : Type 0 where
   pub parts : (b : List ℕ) (need room : ℕ) → Refuses numberOf (partTests b need room) (partRefusal b need room)
   pub draw : (b : List ℕ) (d room : ℕ) → Refuses numberOf (drawTests b d room) (drawRefusal b d room)
   pub start : (b : List ℕ) (s : CampaignRecord) → Refuses numberOf (startTests b s) (startRefusal b s)
-  pub campaign-draw : (b : List ℕ) (d : ℕ) (s : CampaignRecord) (room : ℕ) → Refuses numberOf (campaignTests b d s room) (campaignRefusal b d s room)
-  -- pooling has refusals that came later, so the lowest place: 11 and 12 before 7
+  -- a campaign draw and pooling have refusals that came later, so the lowest place: 13 before 10, and 11 and 12 before 7
+  pub campaign-draw : (b : List ℕ) (d : ℕ) (s : CampaignRecord) (room : ℕ) → Refuses placeOf (campaignTests b d s room) (campaignRefusal b d s room)
   pub pool : (r c d : ℕ) (g : List ℕ) (e : ℕ) (h : List ℕ) (numbers room : ℕ)
       → Refuses placeOf (poolTests r c d g e h numbers room) (poolRefusal r c d g e h numbers room)

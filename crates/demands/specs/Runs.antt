@@ -1,6 +1,6 @@
--- A run of a campaign, by the draws that were made (specification, "What every campaign is held to"). Assumes nothing.
+-- A run of a campaign, by the draws that were made, and its rounds (specification, "What every campaign is held to"). Assumes nothing.
 use mathlib.Core.Bool.{Bool, true, false, cond, _&&_, _||_}
-use mathlib.Core.List.{List, [], _∷_, map}
+use mathlib.Core.List.{List, [], _∷_, _++_, map}
 use Prim.Native.Nat.{ℕ}
 use lib.ListN.{take}
 use lib.Dec.{eqb}
@@ -46,3 +46,29 @@ drawn p l s = overAccepted (λ t. total (take (cellCount p) (t .result)) s) l
 -- what the arrays of the numbers that are not used add up to
 unfoldable pub unused : Plan → List Made → List ℕ → ℕ
 unused p l s = sumTo (p .denominator) (λ d. cond (used l d) 0 (total (arrayFor (p .arrays) d) s))
+
+-- a list of draws round by round: the completed rounds, and the draws of the round that goes on, refused ones among them
+pub record Rounds : Type 0 where
+  pub completed : List (List Made)
+  pub current : List Made
+
+-- a draw more, of a campaign over D numbers: it belongs to the round that goes on, and completes it if D draws of that round are accepted with it
+unfoldable pub oneMore : ℕ → Rounds → Made → Rounds
+oneMore d r t =
+    let round = r .current ++ (t ∷ []) in
+    cond (eqb (accepted round) d)
+    (record { completed = r .completed ++ (round ∷ []); current = [] })
+    (record { completed = r .completed; current = round })
+
+-- a list of draws more, and so a whole list
+unfoldable pub further : ℕ → Rounds → List Made → Rounds
+further d r [] = r
+further d r (t ∷ l) = further d (oneMore d r t) l
+
+abbrev pub roundsOf : ℕ → List Made → Rounds
+roundsOf d l = further d (record { completed = []; current = [] }) l
+
+-- the draws of some rounds, one round after another, and then those of a list
+unfoldable pub inTurn : List (List Made) → List Made → List Made
+inTurn [] l = l
+inTurn (c ∷ more) l = c ++ inTurn more l

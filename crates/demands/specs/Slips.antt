@@ -92,7 +92,7 @@ countingAll b s x =
       asked = x;
       given = s;
       answer = t .answer;
-      left = recordOf (t .left .taken) (t .left .bits) (zipWith _+_ (s .tally) (drawnArray b (x .number)));
+      left = recordOf (t .left .taken) (t .left .rounds) (t .left .bits) (zipWith _+_ (s .tally) (drawnArray b (x .number)));
       result = t .result;
     }
 
@@ -102,13 +102,13 @@ drawsCountingAll b s (x ∷ l) = countingAll b s x ∷ drawsCountingAll b (count
 
 -- asked of a run of the square campaign: the tally is what was drawn, cell by cell
 abbrev pub tallied : List Made → Bool
-tallied run = every 4 (λ i. eqb (getD (lastRecord (recordOf 0 [] []) run .tally) i 0) (drawn (decode square) run (i ∷ [])))
+tallied run = every 4 (λ i. eqb (getD (lastRecord (recordOf 0 0 [] []) run .tally) i 0) (drawn (decode square) run (i ∷ [])))
 
 abbrev pub twice : List Asked
 twice = ask 0 (8 ∷ 8 ∷ 8 ∷ 8 ∷ []) ∷ ask 0 (8 ∷ 8 ∷ 8 ∷ 8 ∷ []) ∷ []
 
 abbrev pub cleared : CampaignRecord
-cleared = recordOf 0 (0 ∷ []) (0 ∷ 0 ∷ 0 ∷ 0 ∷ [])
+cleared = recordOf 0 0 (0 ∷ []) (0 ∷ 0 ∷ 0 ∷ 0 ∷ [])
 
 -- what is asked, of the definitions' result and of the wrong way's
 pub record Slip : Type 0 where

@@ -58,6 +58,6 @@ pub fn claims()
     ensures belongs { λ _. ⌜ ((l : List Weighted) (d : ℕ) → d < sum (map (λ a. a .weight) l) → Belonging l d) ⌝ }
     // its examples, small campaigns, and the slips that it lists
     ensures examples { λ _. ⌜ ExamplesHold ⌝ }
-    ensures campaigns { λ _. ⌜ map (λ r. saidOf (r .plan) (r .list)) runs ≡ map (λ r. r .said) runs ⌝ }
+    ensures campaigns { λ _. ⌜ map (λ r. saidOf (r .plan) (r .given) (r .before) (r .list)) runs ≡ map (λ r. r .said) runs ⌝ }
     ensures slips { λ _. ⌜ SlipsShut ⌝ }
 {}

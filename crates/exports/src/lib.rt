@@ -17,10 +17,11 @@ ghost use Rattle.pool.specs.Pool.{poolRefusal, lent, pooledInto};
 ghost use Rattle.records.specs.Record.{recordOf};
 ghost use Rattle.campaign.specs.Calls.{started, ask, made, Starts, Draws};
 
-// The part of a campaign record that is no buffer: the count of numbers taken.
+// The part of a campaign record that is no buffer: the count of numbers taken, and the rounds completed.
 #[repr(C)]
 pub struct Record {
     pub taken: u32,
+    pub rounds: u16,
 }
 
 // Writes the first controlled rounding of a table: 0, or the refusal's number.
@@ -140,14 +141,15 @@ pub extern "C" fn lufodimi_start(
     plan: &[u8],
     record: &mut Record,
     bits: &mut [u8],
-    tally: &mut [u32],
+    tally: &mut [u64],
 ) -> u32
     ensures { λ n. ⌜ Starts answerNumber
-        (started (now (plan .entry)) (recordOf (now («record» .entry) .taken) (now (bits .entry)) (now (tally .entry))))
-        n (recordOf (now («record» .exit) .taken) (now (bits .exit)) (now (tally .exit))) ⌝ }
+        (started (now (plan .entry)) (recordOf (now («record» .entry) .taken) (now («record» .entry) .rounds) (now (bits .entry)) (now (tally .entry))))
+        n (recordOf (now («record» .exit) .taken) (now («record» .exit) .rounds) (now (bits .exit)) (now (tally .exit))) ⌝ }
 {
-    let started = campaign::start::start(plan, record.taken, bits, tally);
+    let started = campaign::start::start(plan, record.taken, record.rounds, bits, tally);
     record.taken = started.taken;
+    record.rounds = started.rounds;
     refusals::answer_number(started.answer)
 }
 
@@ -158,14 +160,24 @@ pub extern "C" fn lufodimi_campaign_draw(
     number: u32,
     record: &mut Record,
     bits: &mut [u8],
-    tally: &mut [u32],
+    tally: &mut [u64],
     counts: &mut [u16],
 ) -> u32
     ensures { λ n. ⌜ Draws answerNumber
-        (made (now (plan .entry)) (recordOf (now («record» .entry) .taken) (now (bits .entry)) (now (tally .entry))) (ask number (now (counts .entry))))
-        n (recordOf (now («record» .exit) .taken) (now (bits .exit)) (now (tally .exit))) (now (counts .exit)) ⌝ }
+        (made (now (plan .entry)) (recordOf (now («record» .entry) .taken) (now («record» .entry) .rounds) (now (bits .entry)) (now (tally .entry)))
+        (ask number (now (counts .entry))))
+        n (recordOf (now («record» .exit) .taken) (now («record» .exit) .rounds) (now (bits .exit)) (now (tally .exit))) (now (counts .exit)) ⌝ }
 {
-    let drawn = campaign::draw::draw(plan, number, record.taken, bits, tally, counts);
+    let drawn = campaign::draw::draw(
+        plan,
+        number,
+        record.taken,
+        record.rounds,
+        bits,
+        tally,
+        counts,
+    );
     record.taken = drawn.taken;
+    record.rounds = drawn.rounds;
     refusals::answer_number(drawn.answer)
 }

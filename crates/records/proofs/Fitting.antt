@@ -1,49 +1,35 @@
--- Laws on the test of a record: the numbers taken of each array, and the tally by them. Assumes nothing.
-use mathlib.Core.Path.{_≡_, refl, sym, ap, ap₂, _∙_}
-use mathlib.Core.Bool.{Bool, true, false, _&&_}
+-- Laws on the test of a record: the numbers taken of each array, the count and the tally by them, and where a campaign can stand. Assumes nothing.
+use mathlib.Core.Path.{_≡_, refl, sym, ap, _∙_}
+use mathlib.Core.Bool.{Bool, true, false, not, _&&_}
 use mathlib.Core.List.{List, []}
 use Prim.Native.Nat.{ℕ, zero, suc, _+_, _-_, _*_, _/_, _<_, _≤_}
 use native.Mathlib.Nat.{mul-comm}
-use native.Mathlib.Decide.{ℕ-discrete}
 use native.Mathlib.Omega.{arith}
-use lib.ListN.{length, getD, set, take, replicate, length-replicate}
-use lib.Seq.{getD-take, length-take-le}
+use lib.ListN.{length, getD, set, replicate, length-replicate}
 use lib.Dec.{eqb}
 use mir.Val.{Fits}
-use mir.Syntax.{w64}
-use borrow.Author.Tests.{eq-eqb, ne-eqb}
+use mir.Syntax.{w32, w64}
+use borrow.Author.Tests.{le-leb, lt-leb, lt-ltb, le-ltb, eq-eqb, ne-eqb, not-true, not-false}
 use Rattle.base.specs.Lists.{tabulate, sumTo, every}
-use Rattle.base.specs.Buffers.{written}
 use Rattle.base.specs.Fill.{Filled}
 use Rattle.base.proofs.Lists.{length-tabulate, getD-tabulate}
-use Rattle.base.proofs.Sums.{sum-ext, sum-mul, sum-add-range, sum-places}
+use Rattle.base.proofs.Sums.{sum-ext, sum-mul, sum-ones, sum-term, sum-add-range, sum-places}
 use Rattle.base.proofs.Every.{every-ext, sum-none}
-use Rattle.base.proofs.SumLoops.{sum-more}
+use Rattle.base.proofs.SumLoops.{Summed, sum-more, summed-more, summed-all}
 use Rattle.base.proofs.Filling.{filled-none, front-more, front-all}
 use Rattle.base.proofs.Buffers.{written-at}
 use Rattle.form.specs.declared.Sizes.{Sizes}
 use Rattle.form.specs.Plan.{Weighted, arrayAt, cellCount, arrayFor}
 use Rattle.form.specs.Form.{decode}
-use Rattle.form.specs.Parts.{HasArray, HasCounts, Sized}
-use Rattle.form.proofs.Readings.{counts-length}
-use Rattle.opening.specs.Weighted.{Addable, Increased, cellsMet}
-use Rattle.opening.specs.Parts.{weightsBefore, weightAt, factored, SumsTo}
-use Rattle.form.proofs.Sizing.{arrays-are, cells-are, denominator-is, sized-few, sized-arrays, sized-denominator, has-counts}
-use Rattle.opening.proofs.Weighting.{sums-none, sums-addable, sums-more}
-use Rattle.opening.proofs.Scratch.{counts-read}
+use Rattle.form.specs.Parts.{HasArray, Sized}
+use Rattle.form.proofs.Sizing.{arrays-are, denominator-is, sized-arrays, sized-denominator}
+use Rattle.opening.specs.Parts.{weightsBefore, weightAt, factored}
 use Rattle.opening.proofs.Belonging.{array-for}
 use Rattle.opening.proofs.Opening.{is-open, opened-sized}
 use Rattle.opening.proofs.Opens.{weights-add-up}
-use Rattle.records.specs.Record.{recordOf, bitOf, bitBytes, spareClear, takenSum, fits}
-use Rattle.records.specs.Parts.{bitsSet, Span, takenOf, takenNumbers, Numbered, ArrayAddable, ArraysAdded, Fitted}
-
--- two numbers compared either way
-eqb-sym : (m n : ℕ) → eqb m n ≡ eqb n m
-eqb-sym m n = go (ℕ-discrete m n)
-  where
-    go : Dec (m ≡ n) → eqb m n ≡ eqb n m
-    go (yes e) = rw e refl
-    go (no h) = ne-eqb _ _ h ∙ sym (ne-eqb _ _ (λ e. h (sym e)))
+use Rattle.records.specs.Record.{recordOf, bitOf, bitBytes, spareClear, takenSum, within, fits}
+use Rattle.records.specs.Parts.{bitsSet, Span, takenOf, takenNumbers, Few, Numbered, Tallied, tallyFits, Fitted}
+use Rattle.records.proofs.Bits.{bit-le}
 
 -- a shorter sum
 sum-part : (m n : ℕ) (f : ℕ → ℕ) → m ≤ n → sumTo m f ≤ sumTo n f
@@ -56,7 +42,7 @@ module _ {s : Sizes} {b : List ℕ} (z : Sized s b) where
   pub arrays-end : s .arrays ≡ length (decode b .arrays)
   arrays-end = sym (arrays-are z)
 
-  arrays-few : length (decode b .arrays) ≤ 170
+  pub arrays-few : length (decode b .arrays) ≤ 170
   arrays-few = omega (arith, arrays-are z, sized-arrays z)
 
   module _ {k n : ℕ} (i : n ≡ length (decode b .arrays)) (h : k < n) where
@@ -110,81 +96,40 @@ module _ (l : List Weighted) (bits : List ℕ) where
   unfolding takenNumbers
   taken-at j h = written-at (tabulate (length l) (takenOf l bits)) (replicate 170 0) (length-tabulate _ _) j h ∙ getD-tabulate (length l) (takenOf l bits) j 0 h
 
--- an array's counts, as they are read into a scratch and added to the sums
-pub scratch-asked : {s : Sizes} {b : List ℕ} {k : ℕ} {sums : List ℕ} → ArrayAddable s b k sums → HasCounts b k (replicate 144 0)
-scratch-asked a = has-counts (a .sized) (a .there) (omega (arith, length-replicate {A = ℕ} 144 0, sized-few (a .sized)))
+-- a sum over the numbers of the first k arrays, array by array
+in-arrays : (l : List Weighted) (f : ℕ → ℕ) (k : ℕ) → sumTo (weightsBefore l k) f ≡ sumTo k (λ j. sumTo (weightAt l j) (λ i. f (weightsBefore l j + i)))
+unfolding sumTo
+in-arrays l f zero = refl
+in-arrays l f (suc k) =
+    sum-add-range (weightsBefore l k) (weightAt l k) f ∙ ap (λ (n : ℕ). n + sumTo (weightAt l k) (λ i. f (weightsBefore l k + i))) (in-arrays l f k)
 
-module _ {s : Sizes} {b : List ℕ} {k : ℕ} {sums : List ℕ} (a : ArrayAddable s b k sums) {scratch : List ℕ}
-    (e : scratch ≡ written (arrayAt (decode b .arrays) k .counts) (replicate 144 0)) where
-  pub read-addable : Addable (take (s .rows * s .columns) scratch) sums
-  read-addable = rw (counts-read (a .sized) (a .there) e) (a .addable)
-
-  pub read-added : {factor : ℕ} {new : List ℕ} → Increased factor (take (s .rows * s .columns) scratch) sums new
-      → Increased factor (arrayAt (decode b .arrays) k .counts) sums new
-  read-added i = rw (counts-read (a .sized) (a .there) e) at i
-
--- array by array, each with its factor
-module _ {s : Sizes} {b : List ℕ} (z : Sized s b) where
-  pub added-none : (f : ℕ → ℕ) → SumsTo f (decode b .arrays) (cellCount (decode b)) 0 (replicate 144 0)
-  added-none f = sums-none _ _ _ (omega (arith, cells-are z, sized-few z))
-
-  module _ {f : ℕ → ℕ} {k n : ℕ} {sums : List ℕ} (p : SumsTo f (decode b .arrays) (cellCount (decode b)) k sums) (i : n ≡ length (decode b .arrays)) where
-    module _ (h : k < n) where
-      many : length (arrayAt (decode b .arrays) k .counts) ≡ cellCount (decode b)
-      many = counts-length b k (rw i at h)
-
-      pub array-addable : ArrayAddable s b k sums
-      array-addable = record {
-        sized = z;
-        there = omega (arith, arrays-are z);
-        addable = sums-addable p many (omega (arith, cells-are z, sized-few z)) (omega (arith, arrays-few z));
-      }
-
-      pub added-more : {factor : ℕ} {new : List ℕ} → factor ≡ f k → Increased factor (arrayAt (decode b .arrays) k .counts) sums new
-          → SumsTo f (decode b .arrays) (cellCount (decode b)) (k + 1) new
-      added-more e q = sums-more p many q e refl
-
-    pub added-all : k ≤ n → n ≤ k → SumsTo f (decode b .arrays) (cellCount (decode b)) (length (decode b .arrays)) sums
-    added-all h q = let e : k ≡ length (decode b .arrays) = omega arith in rw e at p
-
--- over the numbers of each array in turn, the arrays of the taken numbers add up to the counts times how many are taken
+-- so the arrays of the taken numbers add up to the counts times how many are taken
 module _ (l : List Weighted) (bits : List ℕ) (i : ℕ) where
   drawn-at : (k j : ℕ) → k < length l → j < weightAt l k → getD (arrayFor l (weightsBefore l k + j)) i 0 ≡ getD (arrayAt l k .counts) i 0
   unfolding sumTo
   drawn-at k j h m = ap (λ (a : List ℕ). getD a i 0) (array-for l _ k h (omega arith) (omega arith))
 
-  taken-before : (k : ℕ) → k ≤ length l → sumTo (weightsBefore l k) (λ d. bitOf bits d * getD (arrayFor l d) i 0) ≡ factored (takenOf l bits) l k i
-  unfolding sumTo
-  taken-before zero h = refl
-  taken-before (suc k) h =
+  taken-arrays : sumTo (weightsBefore l (length l)) (λ d. bitOf bits d * getD (arrayFor l d) i 0) ≡ factored (takenOf l bits) l (length l) i
+  taken-arrays =
+      in-arrays l _ (length l)
+      ∙ sum-ext (length l) _ _ (λ k h.
       let count : ℕ = getD (arrayAt l k .counts) i 0 in
-      sum-add-range (weightsBefore l k) (weightAt l k) _
-      ∙ ap₂ _+_ (taken-before k (omega arith))
-      (sum-ext (weightAt l k) _ (λ j. count * bitOf bits (weightsBefore l k + j)) (λ j m. rw (drawn-at k j h m) (mul-comm _ count))
+      sum-ext (weightAt l k) _ (λ j. count * bitOf bits (weightsBefore l k + j)) (λ j m. rw (drawn-at k j h m) (mul-comm _ count))
       ∙ sum-mul (weightAt l k) count _ ∙ mul-comm count _)
 
--- the three tests
+-- the tests of a record
 spare-by : (d : ℕ) (bits : List ℕ) → spareClear d bits ≡ eqb (bitsSet bits d (8 * ((d + 7) / 8) - d)) 0
 spare-by d bits = sum-none (8 * bitBytes d - d) (λ i. bitOf bits (d + i))
 
-count-by : (n : ℕ) (bits : List ℕ) → bitsSet bits 0 n ≡ sumTo n (bitOf bits)
-count-by n bits = sum-ext n _ _ (λ j l. ap (bitOf bits) (omega arith))
-
 module _ {s : Sizes} {b bits tally : List ℕ} (f : Fitted s b bits tally) where
-  pub sized : Sized s b
+  sized : Sized s b
   sized = opened-sized b s (f .is-open)
 
   abbrev arrays : List Weighted
   arrays = decode b .arrays
 
-  abbrev cells : ℕ
-  cells = s .rows * s .columns
-
   pub spare-asked : Span (s .denominator) (8 * ((s .denominator + 7) / 8) - s .denominator) bits
   spare-asked = let l = sized-denominator sized in let r = f .bits-room in record { begins = omega arith; few = omega arith; room = omega arith }
-
-  pub count-asked : Span 0 (s .denominator) bits
-  count-asked = let l = sized-denominator sized in let r = f .bits-room in record { begins = omega arith; few = omega arith; room = omega arith }
 
   weights : weightsBefore arrays (length arrays) ≡ s .denominator
   weights =
@@ -198,49 +143,103 @@ module _ {s : Sizes} {b bits tally : List ℕ} (f : Fitted s b bits tally) where
     room = omega (arith, weights, f .bits-room);
   }
 
-  -- a part of the tally
-  pub tally-length : {n : ℕ} → n ≤ s .rows * s .columns → n ≡ length (take n tally)
-  tally-length h = sym (length-take-le _ tally (omega (arith, f .tally-room)))
+  pub tallied : Tallied s b tally
+  tallied = record { sized = sized; room = f .tally-room }
 
-  pub tally-few : {n : ℕ} → n ≤ s .rows * s .columns → length (take n tally) ≤ 144
-  tally-few h = omega (arith, tally-length h, sized-few sized)
+  -- with the numbers taken of each array
+  module _ {taken : List ℕ} (t : taken ≡ takenNumbers (decode b .arrays) bits) where
+    taken-is : (j : ℕ) → j < length arrays → getD taken j 0 ≡ takenOf arrays bits j
+    taken-is j h = ap (λ (q : List ℕ). getD q j 0) t ∙ taken-at arrays bits j h
 
-  -- with the numbers taken of each array, and the sums by them
-  module _ {taken sums : List ℕ} (t : taken ≡ takenNumbers (decode b .arrays) bits) (a : ArraysAdded b taken sums) where
-    sum-is : (i : ℕ) → i < cells → takenSum (decode b) bits i ≡ getD sums i 0
-    sum-is i h =
-        ap (λ (n : ℕ). sumTo n (λ d. bitOf bits d * getD (arrayFor arrays d) i 0)) (denominator-is sized ∙ sym weights)
-        ∙ taken-before arrays bits i (length arrays) (omega arith)
-        ∙ sum-ext (length arrays) _ _
-        (λ j m. ap (λ (x : ℕ). x * getD (arrayAt arrays j .counts) i 0) (sym (taken-at arrays bits j m) ∙ ap (λ (q : List ℕ). getD q j 0) (sym t)))
-        ∙ sym (a .is i (omega (arith, cells-are sized)))
+    weight-small : (j : ℕ) → j < length arrays → weightAt arrays j ≤ 65535
+    weight-small j h = omega (arith, sum-term (length arrays) (weightAt arrays) j h, weights, sized-denominator sized)
 
-    tally-test : every cells (λ i. eqb (getD tally i 0) (takenSum (decode b) bits i)) ≡ cellsMet (take cells tally) sums
-    unfolding cellsMet
-    tally-test =
-        every-ext cells _ (λ i. eqb (getD sums i 0) (getD (take cells tally) i 0))
-        (λ i h. rw (sum-is i h, getD-take cells tally i 0 h) (eqb-sym (getD tally i 0) (getD sums i 0)))
-        ∙ ap (λ (n : ℕ). every n (λ i. eqb (getD sums i 0) (getD (take cells tally) i 0))) (tally-length (omega arith))
+    pub few-taken : Few (s .arrays) taken
+    few-taken = record {
+      there = sized-arrays sized;
+      small = λ k h.
+          let l : k < length arrays = omega (arith, arrays-are sized) in
+          omega (arith, taken-is k l, sum-ones (weightAt arrays k) (λ j. bitOf bits (weightsBefore arrays k + j)) (λ j. bit-le bits _), weight-small k l);
+    }
 
-  module _ (n : ℕ) where
-    fits-parts : fits (decode b) (recordOf n bits tally)
-        ≡ (spareClear (s .denominator) bits && eqb n (sumTo (s .denominator) (bitOf bits))
-        && every cells (λ i. eqb (getD tally i 0) (takenSum (decode b) bits i)))
+    -- their sum is the count of the bits
+    count-by : sumTo (s .arrays) (λ k. getD taken k 0) ≡ sumTo (s .denominator) (bitOf bits)
+    count-by =
+        ap (λ (n : ℕ). sumTo n (λ k. getD taken k 0)) (sym (arrays-are sized))
+        ∙ sum-ext (length arrays) _ _ taken-is ∙ sym (in-arrays arrays (bitOf bits) (length arrays)) ∙ ap (λ (n : ℕ). sumTo n (bitOf bits)) weights
+
+    sum-is : (i : ℕ) → factored (λ j. getD taken j 0) arrays (length arrays) i ≡ takenSum (decode b) bits i
+    sum-is i =
+        sum-ext (length arrays) _ _ (λ j m. ap (λ (x : ℕ). x * getD (arrayAt arrays j .counts) i 0) (taken-is j m))
+        ∙ sym (taken-arrays arrays bits i)
+        ∙ ap (λ (n : ℕ). sumTo n (λ d. bitOf bits d * getD (arrayFor arrays d) i 0)) (weights ∙ sym (denominator-is sized))
+
+    tally-by : (rounds : ℕ) → tallyFits rounds (decode b) taken tally
+        ≡ every (cellCount (decode b)) (λ i. eqb (getD tally i 0) (rounds * getD (decode b .cells) i 0 + takenSum (decode b) bits i))
+    unfolding tallyFits
+    tally-by rounds = every-ext (cellCount (decode b)) _ _ (λ i h. ap (λ (n : ℕ). eqb (getD tally i 0) (rounds * getD (decode b .cells) i 0 + n)) (sum-is i))
+
+  -- the ways to the answer
+  module _ (n rounds : ℕ) where
+    fits-parts : fits (decode b) (recordOf n rounds bits tally)
+        ≡ (spareClear (s .denominator) bits && eqb n (sumTo (s .denominator) (bitOf bits)) && within (s .denominator) n rounds
+        && every (cellCount (decode b)) (λ i. eqb (getD tally i 0) (rounds * getD (decode b .cells) i 0 + takenSum (decode b) bits i)))
     unfolding fits
-    fits-parts = rw (cells-are sized, denominator-is sized)
+    fits-parts = rw (denominator-is sized)
 
     module _ (x : ℕ) (xe : x ≡ bitsSet bits (s .denominator) (8 * ((s .denominator + 7) / 8) - s .denominator)) where
-      pub spare-set : (x ≡ 0 → ⊥) → false ≡ fits (decode b) (recordOf n bits tally)
+      pub spare-set : (x ≡ 0 → ⊥) → false ≡ fits (decode b) (recordOf n rounds bits tally)
       spare-set h = sym (fits-parts ∙ rw (spare-by (s .denominator) bits ∙ ne-eqb _ _ (λ q. h (xe ∙ q))))
 
-      module _ (xz : x ≡ 0) (y : ℕ) (ye : y ≡ bitsSet bits 0 (s .denominator)) where
+      module _ (xz : x ≡ 0) {taken : List ℕ} (t : taken ≡ takenNumbers (decode b .arrays) bits) (y : ℕ)
+          (ye : y ≡ sumTo (s .arrays) (λ k. getD taken k 0)) where
         spare : spareClear (s .denominator) bits ≡ true
         spare = spare-by (s .denominator) bits ∙ eq-eqb _ _ (sym xe ∙ xz)
 
-        pub count-off : (y ≡ n → ⊥) → false ≡ fits (decode b) (recordOf n bits tally)
-        count-off h = sym (fits-parts ∙ rw (spare, ne-eqb _ _ (λ q. h (ye ∙ count-by (s .denominator) bits ∙ sym q))))
+        pub count-off : (y ≡ n → ⊥) → false ≡ fits (decode b) (recordOf n rounds bits tally)
+        count-off h = sym (fits-parts ∙ rw (spare, ne-eqb _ _ (λ q. h (ye ∙ count-by t ∙ sym q))))
 
-        pub fits-is : y ≡ n → {taken sums : List ℕ} → taken ≡ takenNumbers (decode b .arrays) bits → ArraysAdded b taken sums
-            → (t : Bool) → t ≡ cellsMet (take (s .rows * s .columns) tally) sums → t ≡ fits (decode b) (recordOf n bits tally)
-        fits-is h g a t e =
-            e ∙ sym (tally-test g a) ∙ sym (fits-parts ∙ rw (spare, eq-eqb _ _ (sym h ∙ ye ∙ count-by (s .denominator) bits)))
+        module _ (yn : y ≡ n) (z : Bool) (ze : z ≡ within (s .denominator) n rounds) where
+          count : eqb n (sumTo (s .denominator) (bitOf bits)) ≡ true
+          count = eq-eqb _ _ (sym yn ∙ ye ∙ count-by t)
+
+          pub not-within : not z ≡ true → false ≡ fits (decode b) (recordOf n rounds bits tally)
+          not-within h = sym (fits-parts ∙ rw (spare, count, sym ze ∙ not-true z h))
+
+          pub fits-is : not z ≡ false → (w : Bool) → w ≡ tallyFits rounds (decode b) taken tally → w ≡ fits (decode b) (recordOf n rounds bits tally)
+          fits-is h w e = e ∙ tally-by t rounds ∙ sym (fits-parts ∙ rw (spare, count, sym ze ∙ not-false z h))
+
+-- a loop that adds them up
+module _ {arrays k s : ℕ} {taken : List ℕ} (f : Few arrays taken) (p : Summed (λ j. getD taken j 0) 65536 k s) where
+  module _ (h : k < arrays) where
+    pub taken-there : k < 170
+    taken-there = omega (arith, f .there)
+
+    pub taken-fits : Fits w32 (s + getD taken k 0)
+    taken-fits = record { fits = omega (arith, p .small, f .there, f .small k h) }
+
+    pub taken-more : Summed (λ j. getD taken j 0) 65536 (k + 1) (s + getD taken k 0)
+    taken-more = summed-more p _ refl (omega (arith, f .small k h))
+
+pub taken-all : (taken : List ℕ) {arrays k s : ℕ} → Summed (λ j. getD taken j 0) 65536 k s → k ≤ arrays → arrays ≤ k → s ≡ sumTo arrays (λ j. getD taken j 0)
+taken-all taken p h l = summed-all p h l .0
+
+-- where a campaign can stand, case by case
+module _ (d n rounds : ℕ) where
+  pub many-rounds : 1000 < rounds → false ≡ within d n rounds
+  unfolding within
+  many-rounds h = sym (simp (lt-leb rounds 1000 h))
+
+  module _ (h : rounds ≤ 1000) where
+    pub none-free : d ≤ n → false ≡ within d n rounds
+    unfolding within
+    none-free l = sym (simp (le-leb rounds 1000 h, le-ltb n d l))
+
+    module _ (l : n < d) where
+      pub last-round : rounds ≡ 1000 → eqb n 0 ≡ within d n rounds
+      unfolding within
+      last-round e = sym (rw (le-leb rounds 1000 h, lt-ltb n d l, le-ltb rounds 1000 (omega arith)))
+
+      pub in-round : (rounds ≡ 1000 → ⊥) → true ≡ within d n rounds
+      unfolding within
+      in-round e = sym (rw (le-leb rounds 1000 h, lt-ltb n d l, lt-ltb rounds 1000 (omega arith)))

@@ -2,3 +2,5 @@ pub mod Bits
 pub mod Long
 pub mod Numbers
 pub mod Fitting
+pub mod Tallying
+pub mod Clearing

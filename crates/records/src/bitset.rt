@@ -1,7 +1,8 @@
 // The bits of a campaign record: number d in bit d mod 8 of byte d / 8.
 ghost use mathlib.Core.Path.{_≡_};
-ghost use Prim.Native.Nat.{_+_, _*_, _/_, _%_, _^_, _<_};
-ghost use lib.ListN.{length, getD, set};
+ghost use Prim.Native.Nat.{_+_, _*_, _/_, _%_, _^_, _<_, _≤_};
+ghost use lib.ListN.{length, getD, set, replicate};
+ghost use Rattle.base.specs.Buffers.{written};
 ghost use Rattle.records.specs.Record.{bitOf};
 ghost use Rattle.records.specs.Parts.{bitsSet, Span, Unset};
 
@@ -31,4 +32,14 @@ pub fn set_bit(bits: &mut [u8], d: usize)
     ensures { λ _. ⌜ now (bits .exit) ≡ set (now (bits .entry)) (d / 8) (getD (now (bits .entry)) (d / 8) 0 + 2 ^ (d % 8)) ⌝ }
 {
     bits[d / 8] = bits[d / 8] + (1u8 << ((d % 8) as u32));
+}
+
+// Sets the first bytes to zero.
+pub fn clear_bytes(bytes: &mut [u8], count: usize)
+    requires { ⌜ count ≤ length (now bytes) ⌝ }
+    ensures { λ _. ⌜ now (bytes .exit) ≡ written (replicate count 0) (now (bytes .entry)) ⌝ }
+{
+    for i in 0..count {
+        bytes[i] = 0;
+    }
 }

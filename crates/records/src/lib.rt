@@ -1,3 +1,4 @@
 // Campaign records: a bit for each number, and whether a record fits a plan.
 pub mod bitset;
 pub mod fit;
+mod tally;

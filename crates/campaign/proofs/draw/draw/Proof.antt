@@ -1,6 +1,6 @@
 use mathlib.Core.Path.{refl}
 use native.Mathlib.Omega.{arith}
-use Rattle.campaign.proofs.Calling.{draw-product, array-asked, addable, bit-asked, count-small, draw-keeps, draw-leaves}
+use Rattle.campaign.proofs.Calling.{draw-product, array-asked, addable, bit-asked, round-asked, count-small, draw-keeps, draw-leaves}
 use borrow.Author.Needs.{needs}
 use Rattle.campaign.proofs.draw.draw.Statement.{statement}
 use Rattle.campaign.proofs.draw.draw.Tie as tie
@@ -31,6 +31,12 @@ add-count c =
     let told = c .before .before .before .before .before .before .before .before .before .before .before .before .before .before .before in
     omega (arith, count-small _ _ _ _ (told .before .before .draw-opened .ensures) (told .opened2 .given .1))
 
+close-round-requires : tie.Need-close-round-requires
+close-round-requires c κs =
+    let marked = c .before .before .before in
+    let told = marked .before .before .before .before .before .before .before .before .before .before .before .before .before in
+    round-asked _ _ _ _ (told .before .before .draw-opened .ensures) (told .opened2 .given .1) (marked .set-bit .ensures)
+
 returns : tie.Need-returns
 returns c =
     let told = c .before in
@@ -38,11 +44,13 @@ returns c =
 
 returns-2 : tie.Need-returns-2
 returns-2 c =
-    let marked = c .before .before in
+    let closed = c .before .before in
+    let marked = closed .before .before .before .before in
     let added = marked .before .before .before .before in
     let wrote = added .before .before .before .before .before in
     let told = wrote .before .before .before .before in
-    draw-leaves _ _ _ _ (told .before .before .draw-opened .ensures) (told .opened2 .given .1) _ refl (wrote .write-array .ensures) (added .add-counts .ensures) (marked .set-bit .ensures)
+    draw-leaves _ _ _ _ (told .before .before .draw-opened .ensures) (told .opened2 .given .1) _ refl (wrote .write-array .ensures) (added .add-counts .ensures)
+    (marked .set-bit .ensures) (closed .close-round .ensures)
 
 pub draw-spec : {M : Type 1} → statement M
 draw-spec =
@@ -56,6 +64,7 @@ draw-spec =
     add-counts-requires
     set-bit-requires
     add-count
+    close-round-requires
     (λ c. search needs)
     (λ c. search needs)
     returns

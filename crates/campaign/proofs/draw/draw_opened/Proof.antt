@@ -1,4 +1,4 @@
-use Rattle.campaign.proofs.Calling.{start-product, short-counts, number-above, start-fitted, not-fitting, bit-there, is-taken, draw-refused, is-accepted}
+use Rattle.campaign.proofs.Calling.{start-product, short-counts, number-above, start-fitted, not-fitting, all-done, bit-there, is-taken, draw-refused, is-accepted}
 use borrow.Author.Needs.{needs}
 use Rattle.campaign.proofs.draw.draw_opened.Statement.{statement}
 use Rattle.campaign.proofs.draw.draw_opened.Tie as tie
@@ -15,6 +15,7 @@ draw-opened-spec =
     (λ c. search (needs, number-above))
     (λ c κs. search (needs, start-fitted))
     (λ c. search (needs, not-fitting))
+    (λ c. search (needs, all-done))
     (λ c κs. search (needs, bit-there))
     (λ c. search (needs, is-taken))
     (λ c. search (needs, draw-refused))

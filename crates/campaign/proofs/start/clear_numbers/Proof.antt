@@ -1,7 +1,7 @@
 use Prim.Native.Nat.{_≤_, _-_}
 use Rattle.base.specs.Fill.{Filled}
 use Rattle.base.proofs.Filling.{filled-none}
-use Rattle.campaign.proofs.Calling.{zeroed, zeroed-more}
+use Rattle.records.proofs.Clearing.{zeroed, zeroed-more}
 use borrow.Author.Needs.{needs}
 use Rattle.campaign.proofs.start.clear_numbers.Statement.{statement}
 use Rattle.campaign.proofs.start.clear_numbers.Tie as tie

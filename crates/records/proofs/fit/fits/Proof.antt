@@ -1,6 +1,5 @@
 use native.Mathlib.Omega.{arith}
-use Rattle.opening.proofs.Opening.{sizes-product}
-use Rattle.records.proofs.Fitting.{spare-asked, count-asked, numbered, sized, tally-length, tally-few, spare-set, count-off, fits-is}
+use Rattle.records.proofs.Fitting.{spare-asked, numbered, few-taken, tallied, spare-set, count-off, not-within, fits-is}
 use borrow.Author.Needs.{needs}
 use Rattle.records.proofs.fit.fits.Statement.{statement}
 use Rattle.records.proofs.fit.fits.Tie as tie
@@ -18,11 +17,10 @@ fits-spec =
     (λ c. search needs)
     bits-set-requires
     (λ c. search (needs, spare-set))
-    (λ c κs. search (needs, count-asked))
-    (λ c. search (needs, count-off))
     (λ c κs. search (needs, numbered))
-    (λ c κs. search (needs, sized))
-    (λ c. search (needs, sizes-product))
-    (λ c. search (needs, tally-length))
-    (λ c κs. search (needs, tally-few))
+    (λ c κs. search (needs, few-taken))
+    (λ c. search (needs, count-off))
+    (λ c κs. search needs)
+    (λ c. search (needs, not-within))
+    (λ c κs. search (needs, tallied))
     (λ c. search (needs, fits-is)))
