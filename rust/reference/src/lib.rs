@@ -13,7 +13,7 @@ mod table;
 mod text;
 mod variances;
 
-pub use campaign::{bytes_of_bits, campaign_draw, start};
+pub use campaign::{bytes_of_bits, campaign_draw, start, ROUNDS};
 pub use parts::{cells, sizes};
 pub use plan::{plan, plan_of, Array, Plan};
 pub use pool::{least_common_multiple, pool};

@@ -25,6 +25,8 @@ pub enum Refusal {
     Multiple = 11,
     /// A pooled cell above 1000 times the multiple.
     PooledCell = 12,
+    /// A campaign whose 1,000 rounds are done.
+    Rounds = 13,
 }
 
 impl Refusal {

@@ -117,22 +117,26 @@ fn weights_one_short_of_the_denominator_do_not_open() {
 #[test]
 fn campaign_over_one_number() {
     let bytes = stored_plan(&table(1, 1, 1, &[5]));
-    let (mut taken, mut bits, mut tally, mut counts) = (7, [7], [7], [7]);
-    assert_eq!(start(&bytes, &mut taken, &mut bits, &mut tally), Ok(()));
+    let (mut taken, mut rounds, mut bits, mut tally, mut counts) = (7, 7, [7], [7], [7]);
+    assert_eq!(
+        start(&bytes, &mut taken, &mut rounds, &mut bits, &mut tally),
+        Ok(())
+    );
     let mut drawn = |number| {
         campaign_draw(
             &bytes,
             number,
             &mut taken,
+            &mut rounds,
             &mut bits,
             &mut tally,
             &mut counts,
         )
     };
     assert_eq!(drawn(0), Ok(()));
-    assert_eq!(drawn(0), Err(Refusal::Taken));
     assert_eq!(drawn(1), Err(Refusal::DrawNumber));
-    assert_eq!((taken, bits, tally, counts), (1, [1], [5], [5]));
+    assert_eq!(drawn(0), Ok(()));
+    assert_eq!((taken, rounds, bits, tally, counts), (0, 2, [0], [10], [5]));
 }
 
 /// Every array rounds the table with all its totals, the grand total being whole,

@@ -1,20 +1,23 @@
-//! Starts and campaign draws (01, "Campaign record" and "Turned back").
+//! Starts and campaign draws (01, "Campaign record" and "Turned back"; 02, F-5).
 
 use super::open::one_cell;
 use super::stored::{changed, longer, SQUARE};
 use super::{FIVE, FOUR, ONE, THREE};
 
-/// A campaign record: the count of numbers taken, the bits and the tally.
+/// A campaign record: the count of numbers taken, the rounds completed, the bits and the
+/// tally.
 #[derive(Clone, Debug, PartialEq, Eq)]
 pub struct Record {
     pub taken: u32,
+    pub rounds: u16,
     pub bits: Vec<u8>,
-    pub tally: Vec<u32>,
+    pub tally: Vec<u64>,
 }
 
-pub(super) fn record(taken: u32, bits: &[u8], tally: &[u32]) -> Record {
+pub(super) fn record(taken: u32, rounds: u16, bits: &[u8], tally: &[u64]) -> Record {
     Record {
         taken,
+        rounds,
         bits: bits.to_vec(),
         tally: tally.to_vec(),
     }
@@ -54,37 +57,52 @@ pub(super) fn single(denominator: u8) -> Vec<u8> {
 
 /// A record of the square campaign before a start.
 pub fn any() -> Record {
-    record(7, &[255, 6], &[1, 2, 3, 4, 5])
+    record(7, 1001, &[255, 6], &[1, 2, 3, 4, 5])
 }
 
 /// After the start.
 fn fresh() -> Record {
-    record(0, &[0], &[0, 0, 0, 0])
+    record(0, 0, &[0], &[0, 0, 0, 0])
 }
 
 /// After draw 0.
 fn one() -> Record {
-    record(1, &[1], &[0, 1, 1, 0])
+    record(1, 0, &[1], &[0, 1, 1, 0])
 }
 
-/// After both draws.
+/// After both draws, which complete the round.
 fn both() -> Record {
-    record(2, &[3], &[1, 1, 1, 1])
+    record(0, 1, &[0], &[1, 1, 1, 1])
+}
+
+/// After 999 rounds.
+pub(super) fn late() -> Record {
+    record(0, 999, &[0], &[999, 999, 999, 999])
+}
+
+/// After draw 0 of the thousandth.
+fn last() -> Record {
+    record(1, 999, &[1], &[999, 1000, 1000, 999])
+}
+
+/// After the thousandth.
+fn over() -> Record {
+    record(0, 1000, &[0], &[1000, 1000, 1000, 1000])
 }
 
 /// One that is too short in bits.
 fn no_bits() -> Record {
-    record(7, &[], &[1, 2, 3, 4])
+    record(7, 1001, &[], &[1, 2, 3, 4])
 }
 
 /// One that is too short in tally.
 fn three_tallied() -> Record {
-    record(7, &[1], &[1, 2, 3])
+    record(7, 1001, &[1], &[1, 2, 3])
 }
 
 /// One that does not fit.
 fn unfit() -> Record {
-    record(2, &[1], &[0, 1, 1, 0])
+    record(2, 0, &[1], &[0, 1, 1, 0])
 }
 
 fn starts_with(plan: &[u8], given: Record, left: Record) -> Start {
@@ -105,15 +123,15 @@ fn refuses_start(number: u32, plan: &[u8], given: Record) -> Start {
 
 pub fn starts() -> Vec<Start> {
     let (heavy, long) = (heavy(), longer(SQUARE));
-    let held = |bits: &[u8]| record(3, bits, &[9]);
+    let held = |bits: &[u8]| record(3, 2, bits, &[9]);
     vec![
         // bytes and numbers beyond those needed stay
-        starts_with(SQUARE, any(), record(0, &[0, 6], &[0, 0, 0, 0, 5])),
+        starts_with(SQUARE, any(), record(0, 0, &[0, 6], &[0, 0, 0, 0, 5])),
         // the bits of D 7 and 8 take one byte, those of D 9 two
-        starts_with(&single(7), held(&[255]), record(0, &[0], &[0])),
-        starts_with(&single(8), held(&[255]), record(0, &[0], &[0])),
-        starts_with(&single(9), held(&[255, 255]), record(0, &[0, 0], &[0])),
-        starts_with(&single(8), held(&[255, 255]), record(0, &[0, 255], &[0])),
+        starts_with(&single(7), held(&[255]), record(0, 0, &[0], &[0])),
+        starts_with(&single(8), held(&[255]), record(0, 0, &[0], &[0])),
+        starts_with(&single(9), held(&[255, 255]), record(0, 0, &[0, 0], &[0])),
+        starts_with(&single(8), held(&[255, 255]), record(0, 0, &[0, 255], &[0])),
         // 5, 6 and 7 alone
         refuses_start(5, &long, any()),
         refuses_start(6, &heavy, any()),
@@ -157,62 +175,106 @@ pub fn draws() -> Vec<Draw> {
 }
 
 fn accepted_draws() -> Vec<Draw> {
-    let beyond = record(0, &[0, 6], &[0, 0, 0, 0, 5]);
-    let taken_beyond = record(1, &[2, 6], &[1, 0, 0, 1, 5]);
-    let taken = |bits: &[u8]| record(1, bits, &[1]);
-    let twice = |bits: &[u8]| -> Left { (record(2, bits, &[2]), &[1]) };
+    let again = record(1, 1, &[1], &[1, 2, 2, 1]);
+    let alone = |rounds| record(0, rounds, &[0], &[u64::from(rounds)]);
+    let beyond = record(0, 0, &[0, 6], &[0, 0, 0, 0, 5]);
+    let taken_beyond = record(1, 0, &[2, 6], &[1, 0, 0, 1, 5]);
+    let round_beyond = record(0, 1, &[0, 6], &[1, 1, 1, 1, 5]);
+    let taken = |bits: &[u8]| record(1, 0, bits, &[1]);
+    let twice = |bits: &[u8]| -> Left { (record(2, 0, bits, &[2]), &[1]) };
+    let eight = record(8, 4, &[255, 0], &[44]);
+    let round_of_nine = record(0, 5, &[0, 0], &[45]);
     vec![
         draws_with(SQUARE, fresh(), 0, FIVE, (one(), &[0, 1, 1, 0, 8])),
+        // the last free number completes the round; the next round begins, and in it 0 is
+        // free again
         draws_with(SQUARE, one(), 1, FOUR, (both(), &[1, 0, 0, 1])),
+        draws_with(SQUARE, both(), 0, FOUR, (again, &[0, 1, 1, 0])),
+        // over D 1 each draw of 0 is a round
+        draws_with(&single(1), alone(0), 0, ONE, (alone(1), &[1])),
+        draws_with(&single(1), alone(1), 0, ONE, (alone(2), &[1])),
+        // the thousandth round
+        draws_with(SQUARE, late(), 0, FOUR, (last(), &[0, 1, 1, 0])),
+        draws_with(SQUARE, last(), 1, FOUR, (over(), &[1, 0, 0, 1])),
         // bytes and numbers beyond those needed stay, and are no part of the record's fit
-        draws_with(SQUARE, beyond, 1, FOUR, (taken_beyond, &[1, 0, 0, 1])),
-        // number d in bit d mod 8, lowest first, of byte d / 8
+        draws_with(
+            SQUARE,
+            beyond,
+            1,
+            FOUR,
+            (taken_beyond.clone(), &[1, 0, 0, 1]),
+        ),
+        draws_with(SQUARE, taken_beyond, 0, FOUR, (round_beyond, &[0, 1, 1, 0])),
+        // number d in bit d mod 8, lowest first, of byte d / 8; a round frees all of them
         draws_with(&single(7), taken(&[1]), 6, ONE, twice(&[65])),
         draws_with(&single(8), taken(&[1]), 7, ONE, twice(&[129])),
         draws_with(&single(9), taken(&[1, 0]), 8, ONE, twice(&[1, 1])),
         draws_with(&single(9), taken(&[8, 0]), 1, ONE, twice(&[10, 0])),
+        draws_with(&single(9), eight, 8, ONE, (round_of_nine, &[1])),
     ]
 }
 
 fn refused_draws() -> Vec<Draw> {
     vec![
-        // 5, 6, 7 (bits, tally, array), 8, 9 (count, tally, a spare bit) and 10 alone
+        // 5, 6, 7 (bits, tally, array), 8, 13 and 10 alone
         refuses(5, &longer(SQUARE), fresh(), 0, FOUR),
         refuses(6, &heavy(), fresh(), 0, FOUR),
-        refuses(7, SQUARE, record(0, &[], &[0, 0, 0, 0]), 0, FOUR),
-        refuses(7, SQUARE, record(0, &[0], &[0, 0, 0]), 0, FOUR),
-        refuses(7, &single(9), record(0, &[0], &[0]), 0, ONE),
+        refuses(7, SQUARE, record(0, 0, &[], &[0, 0, 0, 0]), 0, FOUR),
+        refuses(7, SQUARE, record(0, 0, &[0], &[0, 0, 0]), 0, FOUR),
+        refuses(7, &single(9), record(0, 0, &[0], &[0]), 0, ONE),
         refuses(7, SQUARE, fresh(), 0, THREE),
         refuses(8, SQUARE, one(), 2, FOUR),
-        refuses(9, SQUARE, unfit(), 1, FOUR),
-        refuses(9, SQUARE, record(1, &[1], &[0, 1, 1, 1]), 1, FOUR),
-        refuses(9, SQUARE, record(1, &[5], &[0, 1, 1, 0]), 1, FOUR),
-        refuses(9, &single(7), record(0, &[128], &[0]), 0, ONE),
-        refuses(9, &single(9), record(0, &[0, 2], &[0]), 0, ONE),
+        refuses(13, SQUARE, over(), 0, FOUR),
         refuses(10, SQUARE, one(), 0, FOUR),
+        refuses(10, SQUARE, last(), 0, FOUR),
+        // 9: the count, the tally, a spare bit
+        refuses(9, SQUARE, unfit(), 1, FOUR),
+        refuses(9, SQUARE, record(1, 0, &[1], &[0, 1, 1, 1]), 1, FOUR),
+        refuses(9, SQUARE, record(1, 0, &[5], &[0, 1, 1, 0]), 1, FOUR),
+        refuses(9, &single(7), record(0, 0, &[128], &[0]), 0, ONE),
+        refuses(9, &single(9), record(0, 0, &[0, 2], &[0]), 0, ONE),
+        // 9: more than 1,000 rounds, no number free, a number taken after 1,000 rounds, a
+        // tally without the rounds' part or with a round too many
+        refuses(9, SQUARE, record(0, 1001, &[0], &[1001; 4]), 0, FOUR),
+        refuses(9, SQUARE, record(2, 0, &[3], &[1, 1, 1, 1]), 0, FOUR),
+        refuses(9, SQUARE, taken_when_over(), 1, FOUR),
+        refuses(9, SQUARE, record(1, 1, &[1], &[0, 1, 1, 0]), 1, FOUR),
+        refuses(9, SQUARE, record(0, 0, &[0], &[1, 1, 1, 1]), 1, FOUR),
     ]
+}
+
+/// One with a number taken after the thousandth round.
+fn taken_when_over() -> Record {
+    record(1, 1000, &[1], &[1000, 1001, 1001, 1000])
 }
 
 fn doubly_refused_draws() -> Vec<Draw> {
     let (heavy, long) = (heavy(), longer(SQUARE));
+    let untallied = record(0, 1000, &[0], &[0, 0, 0, 0]);
     vec![
-        // 5 with 6, 7, 8, 9 and 10
+        // 5 with 6, 7, 8, 9, 13 and 10
         refuses(5, &longer(&heavy), fresh(), 0, FOUR),
         refuses(5, &long, fresh(), 0, THREE),
         refuses(5, &long, fresh(), 2, FOUR),
         refuses(5, &long, unfit(), 1, FOUR),
+        refuses(5, &long, over(), 0, FOUR),
         refuses(5, &long, one(), 0, FOUR),
-        // 6 with 7, 8, 9 and 10
+        // 6 with 7, 8, 9, 13 and 10
         refuses(6, &heavy, fresh(), 0, THREE),
         refuses(6, &heavy, fresh(), 3, FOUR),
         refuses(6, &heavy, unfit(), 1, FOUR),
+        refuses(6, &heavy, over(), 0, FOUR),
         refuses(6, &heavy, one(), 0, FOUR),
-        // 7 with 8, 9 and 10
+        // 7 with 8, 9, 13 and 10
         refuses(7, SQUARE, fresh(), 2, THREE),
         refuses(7, SQUARE, unfit(), 1, THREE),
+        refuses(7, SQUARE, over(), 0, THREE),
         refuses(7, SQUARE, one(), 0, THREE),
-        // 8 with 9, and 9 with 10
+        // 8 with 9 and 13, 9 with 13 and 10, and all three of these
         refuses(8, SQUARE, unfit(), 2, FOUR),
+        refuses(8, SQUARE, over(), 2, FOUR),
+        refuses(9, SQUARE, untallied, 0, FOUR),
         refuses(9, SQUARE, unfit(), 0, FOUR),
+        refuses(9, SQUARE, taken_when_over(), 0, FOUR),
     ]
 }

@@ -8,8 +8,13 @@ use tables::literal::runs::{self, Asked, Run, Said};
 /// The number that a start returns, and the record as it leaves it.
 fn started(plan: &[u8], given: &Record) -> (u32, Record) {
     let mut record = given.clone();
-    let (bits, tally) = (&mut record.bits, &mut record.tally);
-    let answer = reference::start(plan, &mut record.taken, bits, tally);
+    let answer = reference::start(
+        plan,
+        &mut record.taken,
+        &mut record.rounds,
+        &mut record.bits,
+        &mut record.tally,
+    );
     (number_of(answer), record)
 }
 
@@ -20,6 +25,7 @@ fn drawn(plan: &[u8], given: &Record, asked: u32, buffer: &[u16]) -> (u32, Recor
         plan,
         asked,
         &mut record.taken,
+        &mut record.rounds,
         &mut record.bits,
         &mut record.tally,
         &mut counts,
@@ -56,23 +62,35 @@ fn unused_arrays(plan: &[u8], used: &[bool]) -> Vec<Vec<u16>> {
 
 /// What is found of a run by its calls.
 fn found(run: &Run) -> Said {
-    let (_, mut record) = started(&run.plan, &campaign::any());
+    let mut record = match &run.from {
+        Some(record) => record.clone(),
+        None => started(&run.plan, &campaign::any()).1,
+    };
     let mut answers = Vec::new();
+    let mut rounds = 0;
     let mut used = vec![false; run.said.used.len()];
-    let mut arrays = Vec::new();
+    let (mut arrays, mut all) = (Vec::new(), Vec::new());
     for Asked { number, buffer } in &run.asked {
         let (answer, left, counts) = drawn(&run.plan, &record, *number, buffer);
         if answer == 0 {
             used[*number as usize] = true;
-            arrays.push(counts);
+            arrays.push(counts.clone());
+            all.push(counts);
+        }
+        if !used.contains(&false) {
+            rounds += 1;
+            used.fill(false);
+            arrays.clear();
         }
         answers.push(answer);
         record = left;
     }
     Said {
         answers,
+        rounds,
         accepted: arrays.len() as u32,
         drawn: run.sums(&arrays),
+        all: run.sums(&all),
         unused: run.sums(&unused_arrays(&run.plan, &used)),
         used,
         next: runs::NEXT.map(|asked| drawn(&run.plan, &record, asked.number, asked.buffer).0),
