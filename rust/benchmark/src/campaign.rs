@@ -1,5 +1,6 @@
 use benchmark::inputs::{DENOMINATOR, SIZE};
 use benchmark::timing::{Times, PASSES};
+use lufodimi_sys::lufodimi_record;
 use tables::Generator;
 
 const SEED: u64 = 14;
@@ -9,22 +10,22 @@ const DRAWS: usize = 10;
 
 /// The record of a campaign and the buffer for its arrays.
 struct Campaign {
-    taken: u32,
+    record: lufodimi_record,
     bits: Vec<u8>,
-    tally: [u32; SIZE],
+    tally: [u64; SIZE],
     counts: [u16; SIZE],
 }
 
 impl Campaign {
     fn start(&mut self, plan: &[u8]) -> u32 {
-        lufodimi_sys::start(plan, &mut self.taken, &mut self.bits, &mut self.tally)
+        lufodimi_sys::start(plan, &mut self.record, &mut self.bits, &mut self.tally)
     }
 
     fn draw(&mut self, plan: &[u8], number: u32) -> u32 {
         lufodimi_sys::campaign_draw(
             plan,
             number,
-            &mut self.taken,
+            &mut self.record,
             &mut self.bits,
             &mut self.tally,
             &mut self.counts,
@@ -38,7 +39,7 @@ pub fn measure(plans: &[Vec<u8>]) {
     let mut numbers: Vec<u32> = (0..DENOMINATOR).collect();
     Generator::new(SEED).shuffle(&mut numbers);
     let mut campaign = Campaign {
-        taken: 0,
+        record: lufodimi_record::default(),
         bits: vec![0; (DENOMINATOR as usize).div_ceil(8)],
         tally: [0; SIZE],
         counts: [0; SIZE],

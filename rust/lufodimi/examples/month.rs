@@ -1,8 +1,9 @@
 //! A month's draw, with the campaign's record kept in a file from month to month.
 //!
 //! The number is drawn evenly among those that are free, from the random numbers of the
-//! operating system. The example plays a whole campaign, one month after another, and
-//! shows what no draw changes: at its end each cell is drawn as often as planned.
+//! operating system. The example plays two rounds of a campaign, one month after another,
+//! and shows what no draw changes: in each round each cell is drawn as often as planned.
+//! The second round begins by itself.
 
 use lufodimi::{Campaign, Plan, Record, Table};
 use std::error::Error;
@@ -15,35 +16,36 @@ fn main() -> Result<(), Box<dyn Error>> {
     let plan = Plan::of(&Table::new(2, 2, 10, [3, 4, 5, 6])?);
     let file = env::temp_dir().join(format!("lufodimi-month-{}", process::id()));
     keep(&file, Campaign::start(&plan).record())?;
-    for month in 1..=plan.denominator() {
+    for month in 1..=2 * plan.denominator() {
         let mut campaign = kept(&plan, &file)?;
         let counts = draw(&mut campaign, &file)?;
-        let (cells, left) = (counts.len(), campaign.remaining().len());
-        println!("month {month}: counts for {cells} cells, {left} numbers left");
+        let (cells, rounds) = (counts.len(), campaign.rounds());
+        println!("month {month}: counts for {cells} cells, rounds completed: {rounds}");
     }
     let campaign = kept(&plan, &file)?;
     fs::remove_file(&file)?;
-    println!("planned: {:?}", plan.cells());
-    println!("drawn:   {:?}", campaign.tally());
-    assert_eq!(campaign.tally(), plan.cells());
+    println!("planned for a round:  {:?}", plan.cells());
+    println!("drawn in both rounds: {:?}", campaign.tally());
+    assert_eq!(
+        (campaign.rounds(), campaign.tally()),
+        (2, &[6, 8, 10, 12][..])
+    );
     Ok(())
 }
 
 /// How many cartons to open this month, cell by cell. The draw is kept before it is told.
 fn draw(campaign: &mut Campaign, file: &Path) -> Result<Vec<u16>, Box<dyn Error>> {
-    let number = free_number(campaign)?.ok_or("every number of the campaign is taken")?;
-    let counts = campaign.draw(number)?;
+    let counts = campaign.draw(free_number(campaign)?)?;
     keep(file, campaign.record())?;
     Ok(counts)
 }
 
-/// One of the free numbers, each with the same chance, or none if there is none.
-fn free_number(campaign: &Campaign) -> io::Result<Option<u32>> {
+/// One of the free numbers of the round, each with the same chance.
+fn free_number(campaign: &Campaign) -> io::Result<u32> {
     let mut free = campaign.remaining();
-    match u32::try_from(free.len()).expect("there are at most 65,535") {
-        0 => Ok(None),
-        count => Ok(free.nth(below(count, &mut File::open("/dev/urandom")?)? as usize)),
-    }
+    let count = u32::try_from(free.len()).expect("there are at most 65,535");
+    let place = below(count, &mut File::open("/dev/urandom")?)?;
+    Ok(free.nth(place as usize).expect("a number is always free"))
 }
 
 /// A number below `bound`, each with the same chance. A random number that is not below
@@ -83,21 +85,35 @@ mod tests {
     }
 
     #[test]
-    fn months_draw_the_table_and_then_no_more() {
+    fn months_draw_the_table_in_each_round() {
         let plan = Plan::of(&Table::new(2, 3, 4, [1, 2, 3, 5, 6, 7]).expect("accepted"));
         let file = env::temp_dir().join(format!("lufodimi-months-{}", process::id()));
         keep(&file, Campaign::start(&plan).record()).expect("it can be written");
-        let month = || draw(&mut kept(&plan, &file)?, &file);
-        let mut drawn = [0; 6];
-        for _ in 0..4 {
-            for (sum, count) in drawn.iter_mut().zip(month().expect("a number is free")) {
-                *sum += u32::from(count);
+        let mut rounds = Vec::new();
+        for _ in 0..3 {
+            let mut drawn = [0; 6];
+            for _ in 0..4 {
+                let month = draw(&mut kept(&plan, &file).expect("it is kept"), &file);
+                for (sum, count) in drawn.iter_mut().zip(month.expect("accepted")) {
+                    *sum += u32::from(count);
+                }
             }
+            rounds.push(drawn);
         }
-        let after = month();
         fs::remove_file(&file).expect("it is there");
-        assert_eq!(drawn, plan.cells());
-        assert!(after.is_err());
+        assert!(rounds.iter().all(|drawn| drawn == plan.cells()));
+    }
+
+    #[test]
+    fn after_the_last_round_no_month_is_drawn_or_kept() {
+        let plan = Plan::of(&Table::new(1, 1, 1, [5]).expect("accepted"));
+        let file = env::temp_dir().join(format!("lufodimi-over-{}", process::id()));
+        let mut campaign = Campaign::start(&plan);
+        while !campaign.is_over() {
+            campaign.draw(0).expect("accepted");
+        }
+        assert!(draw(&mut campaign, &file).is_err());
+        assert!(!file.exists());
     }
 
     #[test]

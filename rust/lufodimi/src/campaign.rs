@@ -7,8 +7,11 @@ use crate::{Plan, Record, Refusal};
 use alloc::vec;
 use alloc::vec::Vec;
 
-/// A campaign: draws on a plan that use every number once. After the last one each cell
-/// has been drawn exactly as often as planned.
+/// A campaign: draws on a plan in rounds that use every number once. In a completed round
+/// each cell has been drawn exactly as often as planned.
+///
+/// The draw that takes the last free number of a round completes it, and the next one
+/// begins by itself, with all numbers free, until [`ROUNDS`](Campaign::ROUNDS) are done.
 ///
 /// Chances are those of the plan only if each number is drawn evenly among those that
 /// [`remain`](Campaign::remaining). Keep the [`record`](Campaign::record) of a draw
@@ -22,8 +25,13 @@ use alloc::vec::Vec;
 /// for number in 0..10 {
 ///     campaign.draw(number)?;
 /// }
-/// assert!(campaign.is_complete());
+/// assert_eq!((campaign.rounds(), campaign.taken()), (1, 0));
 /// assert_eq!(campaign.tally(), [3, 4, 5, 6]);
+/// for number in 0..10 {
+///     campaign.draw(number)?;
+/// }
+/// assert_eq!((campaign.rounds(), campaign.taken()), (2, 0));
+/// assert_eq!(campaign.tally(), [6, 8, 10, 12]);
 /// # Ok::<(), lufodimi::Refusal>(())
 /// ```
 #[derive(Clone, Debug, PartialEq, Eq)]
@@ -33,14 +41,21 @@ pub struct Campaign<'p> {
 }
 
 impl<'p> Campaign<'p> {
-    /// Starts a campaign: no number is taken.
+    /// How many rounds a campaign has.
+    ///
+    /// ```
+    /// assert_eq!(lufodimi::Campaign::ROUNDS, 1000);
+    /// ```
+    pub const ROUNDS: u16 = 1000;
+
+    /// Starts a campaign: no round is completed, and no number is taken.
     ///
     /// ```
     /// use lufodimi::{Campaign, Plan, Table};
     ///
     /// let plan = Plan::of(&Table::new(1, 1, 3, [2])?);
     /// let campaign = Campaign::start(&plan);
-    /// assert_eq!((campaign.taken(), campaign.tally()), (0, &[0][..]));
+    /// assert_eq!((campaign.rounds(), campaign.taken(), campaign.tally()), (0, 0, &[0][..]));
     /// # Ok::<(), lufodimi::Refusal>(())
     /// ```
     pub fn start(plan: &'p Plan) -> Campaign<'p> {
@@ -49,7 +64,7 @@ impl<'p> Campaign<'p> {
         // then is proved of the library.
         accepted(lufodimi_sys::start(
             plan.as_bytes(),
-            &mut record.taken,
+            &mut record.progress,
             &mut record.bits,
             &mut record.tally,
         ))
@@ -73,25 +88,51 @@ impl<'p> Campaign<'p> {
     /// # Ok::<(), Refusal>(())
     /// ```
     ///
+    /// A record that was kept before there were rounds may have all numbers taken, which
+    /// none has any more. One with 0 rounds, all numbers taken and no spare bit set is gone
+    /// on with as what it is now: a completed round, with nothing taken in the next.
+    ///
+    /// ```
+    /// use lufodimi::{Campaign, Plan, Record, Table};
+    /// # use std::error::Error;
+    ///
+    /// # fn main() -> Result<(), Box<dyn Error>> {
+    /// let plan = Plan::of(&Table::new(1, 1, 3, [2])?);
+    /// let stored = b"LUFR\x01\0\0\0\x03\0\0\0\x01\0\0\0\x01\0\0\0\x07\x02\0\0\0";
+    /// let campaign = Campaign::resume(&plan, Record::from_bytes(stored)?)?;
+    /// assert_eq!((campaign.rounds(), campaign.taken(), campaign.tally()), (1, 0, &[2][..]));
+    /// # Ok(())
+    /// # }
+    /// ```
+    ///
     /// # Errors
     ///
     /// [`Refusal::Record`] if the record does not fit the plan: its lengths are others, a
-    /// spare bit is set, the count is not that of the numbers taken, or the tally is not
-    /// the sum of their arrays.
+    /// spare bit is set, the count is not that of the numbers taken, the rounds are above
+    /// [`ROUNDS`](Campaign::ROUNDS), no number is free, a number is taken after the last
+    /// round, or the tally is not the rounds times the table and the arrays of the numbers
+    /// taken in this round. So is an old record with all numbers taken whose tally is not
+    /// the table.
     pub fn resume(plan: &'p Plan, record: Record) -> Result<Campaign<'p>, Refusal> {
         if !record.has_lengths_of(plan) {
             return Err(Refusal::Record);
         }
+        let record = if record.is_at_old_end(plan) {
+            record.after_first_round()
+        } else {
+            record
+        };
         let campaign = Campaign { plan, record };
-        // A draw tells first whether the record fits, and then whether the number is
-        // taken; number 0 is below every denominator.
+        // A draw tells first whether the record fits, and then whether the rounds are done
+        // and the number is taken; number 0 is below every denominator.
         match campaign.clone().draw(0) {
-            Ok(_) | Err(Refusal::Taken) => Ok(campaign),
+            Ok(_) | Err(Refusal::Rounds | Refusal::Taken) => Ok(campaign),
             Err(refusal) => Err(refusal),
         }
     }
 
-    /// Takes a number, and gives the array that belongs to it, counts in row order.
+    /// Takes a number, and gives the array that belongs to it, counts in row order. With
+    /// the last free number the round is completed, and all numbers are free again.
     ///
     /// ```
     /// use lufodimi::{Campaign, Plan, Refusal, Table};
@@ -106,14 +147,15 @@ impl<'p> Campaign<'p> {
     ///
     /// # Errors
     ///
-    /// [`Refusal::Number`] if the number is not below the plan's denominator, and
-    /// [`Refusal::Taken`] if it is taken.
+    /// [`Refusal::Number`] if the number is not below the plan's denominator,
+    /// [`Refusal::Rounds`] if [`ROUNDS`](Campaign::ROUNDS) are done, and
+    /// [`Refusal::Taken`] if the number is taken in this round.
     pub fn draw(&mut self, number: u32) -> Result<Vec<u16>, Refusal> {
         let mut counts = vec![0; self.plan.cells().len()];
         accepted(lufodimi_sys::campaign_draw(
             self.plan.as_bytes(),
             number,
-            &mut self.record.taken,
+            &mut self.record.progress,
             &mut self.record.bits,
             &mut self.record.tally,
             &mut counts,
@@ -134,7 +176,8 @@ impl<'p> Campaign<'p> {
         self.plan
     }
 
-    /// Whether a number is taken. One that is not below the denominator never is.
+    /// Whether a number is taken in this round. One that is not below the denominator
+    /// never is.
     ///
     /// ```
     /// use lufodimi::{Campaign, Plan, Table};
@@ -149,7 +192,7 @@ impl<'p> Campaign<'p> {
         self.record.is_set(number)
     }
 
-    /// How many numbers are taken.
+    /// How many numbers are taken in this round.
     ///
     /// ```
     /// use lufodimi::{Campaign, Plan, Table};
@@ -164,8 +207,48 @@ impl<'p> Campaign<'p> {
         self.record.taken()
     }
 
-    /// The numbers that are not taken, in rising order. How many there are is known
-    /// without counting, and the next draw is one of them, chosen evenly.
+    /// How many rounds are completed. The tally then has the table so many times, and what
+    /// was drawn in this round.
+    ///
+    /// ```
+    /// use lufodimi::{Campaign, Plan, Table};
+    ///
+    /// let plan = Plan::of(&Table::new(1, 1, 2, [3])?);
+    /// let mut campaign = Campaign::start(&plan);
+    /// campaign.draw(1)?;
+    /// assert_eq!(campaign.rounds(), 0);
+    /// campaign.draw(0)?;
+    /// assert_eq!(campaign.rounds(), 1);
+    /// # Ok::<(), lufodimi::Refusal>(())
+    /// ```
+    pub fn rounds(&self) -> u16 {
+        self.record.rounds()
+    }
+
+    /// Whether [`ROUNDS`](Campaign::ROUNDS) are done. Then every draw is refused, and it is
+    /// time to start a new campaign.
+    ///
+    /// ```
+    /// use lufodimi::{Campaign, Plan, Refusal, Table};
+    ///
+    /// let plan = Plan::of(&Table::new(1, 1, 1, [5])?);
+    /// let mut campaign = Campaign::start(&plan);
+    /// while !campaign.is_over() {
+    ///     campaign.draw(0)?;
+    /// }
+    /// assert_eq!((campaign.rounds(), campaign.tally()), (1000, &[5000][..]));
+    /// assert_eq!(campaign.draw(0), Err(Refusal::Rounds));
+    /// # Ok::<(), Refusal>(())
+    /// ```
+    pub fn is_over(&self) -> bool {
+        self.rounds() == Campaign::ROUNDS
+    }
+
+    /// The numbers that are not taken in this round, in rising order. How many there are is
+    /// known without counting, and the next draw is one of them, chosen evenly.
+    ///
+    /// There is always one. After the last round all numbers count as unused, but draws are
+    /// refused by [`Refusal::Rounds`]; [`is_over`](Campaign::is_over) tells.
     ///
     /// ```
     /// use lufodimi::{Campaign, Plan, Table};
@@ -182,7 +265,7 @@ impl<'p> Campaign<'p> {
         Remaining::of(&self.record, self.plan.denominator())
     }
 
-    /// The sum of the arrays drawn so far, cell by cell in row order.
+    /// The sum of the arrays drawn so far, in all rounds, cell by cell in row order.
     ///
     /// ```
     /// use lufodimi::{Campaign, Plan, Table};
@@ -193,24 +276,8 @@ impl<'p> Campaign<'p> {
     /// assert_eq!(campaign.tally(), [1, 2]);
     /// # Ok::<(), lufodimi::Refusal>(())
     /// ```
-    pub fn tally(&self) -> &[u32] {
+    pub fn tally(&self) -> &[u64] {
         self.record.tally()
-    }
-
-    /// Whether every number is taken. The tally is then the table's cells.
-    ///
-    /// ```
-    /// use lufodimi::{Campaign, Plan, Table};
-    ///
-    /// let plan = Plan::of(&Table::new(1, 1, 1, [5])?);
-    /// let mut campaign = Campaign::start(&plan);
-    /// assert!(!campaign.is_complete());
-    /// campaign.draw(0)?;
-    /// assert!(campaign.is_complete());
-    /// # Ok::<(), lufodimi::Refusal>(())
-    /// ```
-    pub fn is_complete(&self) -> bool {
-        self.taken() == self.plan.denominator()
     }
 
     /// What to keep until the next draw.

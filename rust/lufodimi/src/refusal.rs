@@ -2,7 +2,7 @@ use core::error::Error;
 use core::fmt::{self, Debug, Display, Formatter};
 
 /// Why something was refused. A refusal changes nothing; of several that apply, the first
-/// is returned, in the order of their numbers, but 11 and 12 before 7.
+/// is returned, in the order of their numbers, but 11 and 12 before 7, and 13 before 10.
 ///
 /// It displays as a sentence without its end, and `Debug`, which the `?` of `main`
 /// prints, adds the number.
@@ -39,16 +39,18 @@ pub enum Refusal {
     Number = 8,
     /// A record that does not fit the plan.
     Record = 9,
-    /// A draw number that is taken.
+    /// A draw number that is taken in this round.
     Taken = 10,
     /// The least common multiple of the two denominators above 65,535.
     Multiple = 11,
     /// A pooled cell above 1000 times the multiple.
     PooledCell = 12,
+    /// A campaign whose [`ROUNDS`](crate::Campaign::ROUNDS) are done.
+    Rounds = 13,
 }
 
 /// The refusals in the order of their numbers.
-const REFUSALS: [Refusal; 12] = [
+const REFUSALS: [Refusal; 13] = [
     Refusal::Size,
     Refusal::Denominator,
     Refusal::CellCount,
@@ -61,6 +63,7 @@ const REFUSALS: [Refusal; 12] = [
     Refusal::Taken,
     Refusal::Multiple,
     Refusal::PooledCell,
+    Refusal::Rounds,
 ];
 
 impl Refusal {
@@ -106,6 +109,7 @@ impl Display for Refusal {
                 "the least common multiple of the two denominators is above 65,535"
             }
             Refusal::PooledCell => "a pooled cell is above 1000 times the multiple",
+            Refusal::Rounds => "the 1,000 rounds of the campaign are done",
         })
     }
 }
@@ -126,7 +130,7 @@ mod tests {
 
     #[test]
     fn every_number_has_its_refusal_and_a_sentence() {
-        for number in 1..=12 {
+        for number in 1..=13 {
             let refusal = Refusal::of(number);
             assert_eq!(refusal.number(), number);
             let sentence = refusal.to_string();

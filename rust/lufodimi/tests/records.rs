@@ -3,83 +3,150 @@
 use lufodimi::{Campaign, Plan, Record, RecordError, Table};
 use std::error::Error;
 
-/// Number 8 of 9 is taken, in a campaign of two cells: one expected twice, one never.
+/// Number 8 of 9 is taken in the second round of a campaign of two cells: one expected
+/// twice, one never.
 #[rustfmt::skip]
 const STORED: &[u8] = &[
+    b'L', b'U', b'F', b'R', 2, 0, 1, 0,
+    1, 0, 0, 0, 2, 0, 0, 0, 2, 0, 0, 0,
+    0, 1,
+    20, 0, 0, 0, 0, 0, 0, 0, 0, 0, 0, 0, 0, 0, 0, 0,
+];
+
+/// The same in the first round, as it was stored before there were rounds.
+#[rustfmt::skip]
+const OLD: &[u8] = &[
     b'L', b'U', b'F', b'R', 1, 0, 0, 0,
     1, 0, 0, 0, 2, 0, 0, 0, 2, 0, 0, 0,
     0, 1,
     2, 0, 0, 0, 0, 0, 0, 0,
 ];
 
-fn record() -> Record {
+/// The record after so many rounds and draw 8.
+fn record(rounds: u16) -> Record {
     let plan = Plan::of(&Table::new(1, 2, 9, [18, 0]).expect("accepted"));
     let mut campaign = Campaign::start(&plan);
+    for _ in 0..rounds {
+        for number in 0..9 {
+            campaign.draw(number).expect("free");
+        }
+    }
     campaign.draw(8).expect("free");
     campaign.into_record()
 }
 
-fn changed(place: usize, byte: u8) -> Vec<u8> {
-    let mut bytes = STORED.to_vec();
+fn changed(stored: &[u8], place: usize, byte: u8) -> Vec<u8> {
+    let mut bytes = stored.to_vec();
     bytes[place] = byte;
     bytes
 }
 
 #[test]
 fn a_record_is_stored_byte_by_byte_and_read_again() {
-    assert_eq!(record().to_bytes(), STORED);
-    assert_eq!(Record::from_bytes(STORED), Ok(record()));
-    assert_eq!((record().taken(), record().tally()), (1, &[2, 0][..]));
+    assert_eq!(record(1).to_bytes(), STORED);
+    assert_eq!(Record::from_bytes(STORED), Ok(record(1)));
+    assert_eq!((record(1).rounds(), record(1).taken()), (1, 1));
+    assert_eq!(record(1).tally(), [20, 0]);
+    for rounds in [0, 2, 300, 999] {
+        let stored = record(rounds).to_bytes();
+        assert_eq!(Record::from_bytes(&stored), Ok(record(rounds)));
+    }
+}
+
+#[test]
+fn each_number_has_its_width() {
+    let mut wide = STORED.to_vec();
+    wide[6..12].copy_from_slice(&[1, 2, 3, 4, 5, 6]);
+    wide[30..38].copy_from_slice(&[1, 2, 3, 4, 5, 6, 7, 8]);
+    let record = Record::from_bytes(&wide).expect("a stored record");
+    assert_eq!((record.rounds(), record.taken()), (0x0201, 0x0605_0403));
+    assert_eq!(record.tally(), [20, 0x0807_0605_0403_0201]);
+    assert_eq!(record.to_bytes(), wide);
+}
+
+#[test]
+fn an_old_record_is_read_and_stored_in_the_present_form() {
+    assert_eq!(Record::from_bytes(OLD), Ok(record(0)));
+    let mut wide = OLD.to_vec();
+    wide[26..30].copy_from_slice(&[1, 2, 3, 255]);
+    let record = Record::from_bytes(&wide).expect("a stored record");
+    assert_eq!((record.rounds(), record.taken()), (0, 1));
+    assert_eq!(record.tally(), [2, 0xFF03_0201]);
+    let present = [
+        &STORED[..4],
+        &[2, 0, 0, 0],
+        &OLD[8..26],
+        &[0; 4],
+        &wide[26..],
+        &[0; 4],
+    ];
+    assert_eq!(record.to_bytes(), present.concat());
 }
 
 #[test]
 fn other_bytes_are_no_record() {
     assert_eq!(Record::from_bytes(&[]), Err(RecordError::Magic));
-    assert_eq!(
-        Record::from_bytes(&changed(0, b'l')),
-        Err(RecordError::Magic)
-    );
+    for stored in [STORED, OLD] {
+        assert_eq!(
+            Record::from_bytes(&changed(stored, 0, b'l')),
+            Err(RecordError::Magic)
+        );
+    }
     let plan = Plan::of(&Table::new(1, 1, 1, [0]).expect("accepted"));
     assert_eq!(Record::from_bytes(plan.as_bytes()), Err(RecordError::Magic));
 }
 
 #[test]
 fn other_forms_are_named() {
+    for stored in [STORED, OLD] {
+        for form in [0, 3, 255] {
+            let read = Record::from_bytes(&changed(stored, 4, form));
+            assert_eq!(read, Err(RecordError::Form(form.into())));
+        }
+        let form = 256 + u16::from(stored[4]);
+        let read = Record::from_bytes(&changed(stored, 5, 1));
+        assert_eq!(read, Err(RecordError::Form(form)));
+    }
+}
+
+#[test]
+fn the_form_is_not_taken_for_the_other() {
     assert_eq!(
-        Record::from_bytes(&changed(4, 2)),
-        Err(RecordError::Form(2))
+        Record::from_bytes(&changed(STORED, 4, 1)),
+        Err(RecordError::Layout)
     );
     assert_eq!(
-        Record::from_bytes(&changed(5, 1)),
-        Err(RecordError::Form(257))
-    );
-    assert_eq!(
-        Record::from_bytes(&changed(4, 0)),
-        Err(RecordError::Form(0))
+        Record::from_bytes(&changed(OLD, 4, 2)),
+        Err(RecordError::Layout)
     );
 }
 
 #[test]
-fn zero_field_and_length_are_exact() {
-    for length in 4..STORED.len() {
-        let cut = Record::from_bytes(&STORED[..length]);
-        assert_eq!(cut, Err(RecordError::Layout), "{length} bytes");
+fn the_length_is_exact() {
+    for stored in [STORED, OLD] {
+        for length in 0..stored.len() {
+            let cut = Record::from_bytes(&stored[..length]);
+            let error = if length < 4 {
+                RecordError::Magic
+            } else {
+                RecordError::Layout
+            };
+            assert_eq!(cut, Err(error), "{length} bytes");
+        }
+        let longer = [stored, &[0]].concat();
+        assert_eq!(Record::from_bytes(&longer), Err(RecordError::Layout));
+        // the length of the bits, the length of the tally
+        for (place, byte) in [(12, 1), (12, 6), (15, 255), (16, 1), (16, 3), (19, 255)] {
+            let read = Record::from_bytes(&changed(stored, place, byte));
+            assert_eq!(read, Err(RecordError::Layout), "byte {place}");
+        }
     }
-    let longer = [STORED, &[0]].concat();
-    assert_eq!(Record::from_bytes(&longer), Err(RecordError::Layout));
-    // the zero field, the length of the bits, the length of the tally
-    let changes = [
-        (6, 1),
-        (7, 1),
-        (12, 1),
-        (12, 6),
-        (15, 255),
-        (16, 1),
-        (16, 3),
-        (19, 255),
-    ];
-    for (place, byte) in changes {
-        let read = Record::from_bytes(&changed(place, byte));
+}
+
+#[test]
+fn the_zero_field_of_form_1_is_zero() {
+    for place in [6, 7] {
+        let read = Record::from_bytes(&changed(OLD, place, 1));
         assert_eq!(read, Err(RecordError::Layout), "byte {place}");
     }
 }
@@ -89,8 +156,8 @@ fn errors_are_sentences() {
     for (error, sentence) in [
         (RecordError::Magic, "the bytes are no stored record"),
         (
-            RecordError::Form(2),
-            "the record is stored in form 2, and only form 1 can be read",
+            RecordError::Form(3),
+            "the record is stored in form 3, and only forms 1 and 2 can be read",
         ),
         (
             RecordError::Layout,

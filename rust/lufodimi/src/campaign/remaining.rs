@@ -2,7 +2,7 @@ use crate::Record;
 use core::iter::FusedIterator;
 use core::ops::Range;
 
-/// The numbers of a campaign that are not taken, in rising order.
+/// The numbers of a campaign that are not taken in this round, in rising order.
 ///
 /// ```
 /// use lufodimi::{Campaign, Plan, Table};

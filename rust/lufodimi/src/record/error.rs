@@ -16,9 +16,9 @@ use core::fmt::{self, Debug, Display, Formatter};
 pub enum RecordError {
     /// The bytes do not begin as a stored record does.
     Magic,
-    /// The record is stored in this form, which is not 1.
+    /// The record is stored in this form, which is neither 1 nor 2.
     Form(u16),
-    /// The zero field or the length is wrong.
+    /// The zero field of form 1 or the length is wrong.
     Layout,
 }
 
@@ -28,7 +28,7 @@ impl Display for RecordError {
             RecordError::Magic => formatter.write_str("the bytes are no stored record"),
             RecordError::Form(form) => write!(
                 formatter,
-                "the record is stored in form {form}, and only form {} can be read",
+                "the record is stored in form {form}, and only forms 1 and {} can be read",
                 Record::FORM
             ),
             RecordError::Layout => {
