@@ -31,6 +31,12 @@ impl Item for u32 {
     }
 }
 
+impl Item for u64 {
+    fn from_bits(bits: u64) -> u64 {
+        bits
+    }
+}
+
 impl Item for i64 {
     fn from_bits(bits: u64) -> i64 {
         bits as i64

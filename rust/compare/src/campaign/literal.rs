@@ -46,33 +46,50 @@ pub fn runs(calls: &mut Calls) -> Result<(), Difference> {
     over_rows(&runs::runs(), |run| compare_run(calls, run))
 }
 
-/// A run with its answers and those due next, the record at the end, how many draws
-/// were accepted, what they drew, and what the unused numbers hold.
+/// A run with its answers and those due next, the record at the end, the rounds completed,
+/// how many draws of the round that goes on were accepted, what they drew and what the
+/// unused numbers hold, and what all draws drew.
 fn compare_run(calls: &mut Calls, run: &Run) -> Result<(), Difference> {
-    let generator = &mut Generator::new(0);
-    let start = Start {
-        plan: Buffer::holding(generator, &run.plan),
-        record: Record::holding(generator, &campaign::any()),
-    };
-    let mut record = calls.compare_stated(&start, 0)?.record;
-    let mut arrays = Vec::new();
+    let first = first_record(calls, run)?;
+    let mut record = first.clone();
+    let (mut in_round, mut all) = (Vec::new(), Vec::new());
     for (asked, &answer) in run.asked.iter().zip(&run.said.answers) {
         let left = drawn(calls, run, &record, asked, answer)?;
         if answer == 0 {
-            arrays.push(left.counts.lent().to_vec());
+            in_round.push(left.counts.lent().to_vec());
+            all.push(left.counts.lent().to_vec());
+        }
+        if left.record.rounds != record.rounds {
+            in_round.clear();
         }
         record = left.record;
     }
     for (asked, answer) in runs::NEXT.iter().zip(run.said.next) {
         drawn(calls, run, &record, asked, answer)?;
     }
-    let (drawn, unused) = (run.sums(&arrays), run.sums(&unused_arrays(calls, run)?));
-    let found = (&record, record.taken, &drawn, &unused);
-    let (said, last) = (&run.said, start.record.with(&run.said.last));
-    let stated = (&last, said.accepted, &said.drawn, &said.unused);
+    let unused = run.sums(&unused_arrays(calls, run)?);
+    let sums = [run.sums(&in_round), unused, run.sums(&all)];
+    let rounds = record.rounds - first.rounds;
+    let found = (&record, rounds, in_round.len() as u32, sums);
+    let (said, last) = (&run.said, first.with(&run.said.last));
+    let sums = [&said.drawn, &said.unused, &said.all].map(Vec::clone);
+    let stated = (&last, said.rounds, said.accepted, sums);
     require(found == stated, || {
         format!("both end with {found:?}\nthe papers: {stated:?}\n")
     })
+}
+
+/// The record that a run goes on with, or that its start leaves.
+fn first_record(calls: &mut Calls, run: &Run) -> Result<Record, Difference> {
+    let generator = &mut Generator::new(0);
+    if let Some(record) = &run.from {
+        return Ok(Record::holding(generator, record));
+    }
+    let start = Start {
+        plan: Buffer::holding(generator, &run.plan),
+        record: Record::holding(generator, &campaign::any()),
+    };
+    Ok(calls.compare_stated(&start, 0)?.record)
 }
 
 /// A draw of a run, with this answer.
