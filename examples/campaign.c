@@ -1,5 +1,5 @@
-/* Plans which cartons to open, three shelf zones by four carton kinds, runs a whole campaign with the operating system's random numbers, and prints
- * what was drawn beside what was planned. It prints only what no draw changes. */
+/* Plans which cartons to open, three shelf zones by four carton kinds, runs two rounds of a campaign with the operating system's random numbers, and
+ * prints what was drawn beside what was planned. It prints only what no draw changes. */
 #define _DEFAULT_SOURCE
 #include "lufodimi.h"
 
@@ -8,7 +8,7 @@
 #include <stdlib.h>
 #include <sys/random.h>
 
-enum { ZONES = 3, KINDS = 4, CELLS = ZONES * KINDS, DENOMINATOR = 10, BITS = (DENOMINATOR + 7) / 8 };
+enum { ZONES = 3, KINDS = 4, CELLS = ZONES * KINDS, DENOMINATOR = 10, BITS = (DENOMINATOR + 7) / 8, ROUNDS = 2 };
 
 static const char *const zones[ZONES] = {"front", "middle", "cold"};
 static const char *const kinds[KINDS] = {"tablets", "ampoules", "insulin", "infusions"};
@@ -52,8 +52,8 @@ static uint32_t random_below(uint32_t bound)
     return word % bound;
 }
 
-/* One of the numbers that a record leaves free, each with the same chance; at least one is free. Numbers in turn would not do: an array's numbers
- * lie side by side, so that whoever is checked could foresee the arrays. */
+/* One of the numbers that a record leaves free in this round, each with the same chance; at least one always is. Numbers in turn would not do: an
+ * array's numbers lie side by side, so that whoever is checked could foresee the arrays. */
 static uint32_t random_free(const struct lufodimi_record *record, const uint8_t *bits)
 {
     uint32_t before = random_below(DENOMINATOR - record->taken);
@@ -78,31 +78,35 @@ int main(void)
     expect_done("open", lufodimi_open(plan, length));
     uint32_t sizes[LUFODIMI_SIZES] = {0};
     expect_done("sizes", lufodimi_sizes(plan, length, sizes, LUFODIMI_SIZES));
-    printf("a plan of %u bytes: %u zones by %u kinds, %u arrays, %u draws\n", (unsigned)length,
+    printf("a plan of %u bytes: %u zones by %u kinds, %u arrays, %u draws a round\n", (unsigned)length,
            (unsigned)sizes[0], (unsigned)sizes[1], (unsigned)sizes[2], (unsigned)sizes[3]);
 
     struct lufodimi_record record = {0};
     uint8_t bits[BITS] = {0};
-    uint32_t tally[CELLS] = {0};
-    uint32_t drawn[CELLS] = {0};
+    uint64_t tally[CELLS] = {0};
+    uint64_t drawn[CELLS] = {0};
+    bool exact = true;
     expect_done("start", lufodimi_start(plan, length, &record, bits, BITS, tally, CELLS));
-    uint32_t number = 0;
-    while (record.taken < DENOMINATOR) {
+    for (int draw = 1; draw <= ROUNDS * DENOMINATOR; draw++) {
         uint16_t counts[CELLS] = {0};
-        number = random_free(&record, bits);
+        const uint32_t number = random_free(&record, bits);
         expect_done("draw", lufodimi_campaign_draw(plan, length, number, &record, bits, BITS, tally, CELLS, counts, CELLS));
         for (int cell = 0; cell < CELLS; cell++) {
             drawn[cell] += counts[cell];
         }
+        /* The draw that takes the last free number completes the round, and the next one begins by itself. */
+        if (record.taken == 0) {
+            for (int cell = 0; cell < CELLS; cell++) {
+                exact = exact && tally[cell] == (uint64_t)record.rounds * table[cell];
+            }
+            printf("after %d draws: rounds %u, the tally is %s\n", draw, (unsigned)record.rounds, exact ? "so many times the table" : "wrong");
+        }
     }
 
-    uint16_t counts[CELLS] = {0};
-    const uint32_t again = lufodimi_campaign_draw(plan, length, number, &record, bits, BITS, tally, CELLS, counts, CELLS);
-    printf("%u numbers taken; the last one once more: %s\n", (unsigned)record.taken, again == LUFODIMI_TAKEN ? "refused, it is taken" : "not refused");
-    bool exact = again == LUFODIMI_TAKEN;
+    exact = exact && record.rounds == ROUNDS;
     for (int cell = 0; cell < CELLS; cell++) {
-        printf("%s, %s: drawn %u, planned %u\n", zones[cell / KINDS], kinds[cell % KINDS], (unsigned)drawn[cell], (unsigned)table[cell]);
-        exact = exact && drawn[cell] == table[cell] && tally[cell] == table[cell];
+        printf("%s, %s: drawn %u, planned %u in each round\n", zones[cell / KINDS], kinds[cell % KINDS], (unsigned)drawn[cell], (unsigned)table[cell]);
+        exact = exact && drawn[cell] == tally[cell];
     }
     return exact ? EXIT_SUCCESS : EXIT_FAILURE;
 }

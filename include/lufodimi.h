@@ -3,10 +3,10 @@
  * A table has rows and columns of cells, whole numbers in row order, over one denominator: a cell over the denominator is the count
  * expected there. A plan is a list of whole-number arrays, one count a cell, with weights that add up to the denominator. Draw numbers
  * run from 0 to the denominator minus 1, and each belongs to one array. The chances of a plan hold only if the draw number is drawn
- * evenly at random, in a campaign evenly among the numbers that are not taken yet; the caller makes the random numbers.
+ * evenly at random, in a campaign evenly among the numbers that are not taken yet in this round; the caller makes the random numbers.
  *
  * Every call checks what it is lent. It returns LUFODIMI_DONE, and lufodimi_plan the plan's length, or the number of the first refusal
- * that applies, in the order of their numbers, but 11 and 12 before 7. A refusal changes no buffer.
+ * that applies, in the order of their numbers, but 11 and 12 before 7, and 13 before 10. A refusal changes no buffer.
  *
  * What a call is lent:
  * - A length counts elements, not bytes. A pointer is never null, not even with length 0, and is aligned for its elements.
@@ -15,8 +15,10 @@
  * - A result stands at the start of its buffer, and what lies beyond it is not touched.
  * - Lend a campaign's record, its bits and its tally to each draw as the call before left them; to go on later, keep all three and lend
  *   them again. A draw refuses a record that does not fit the plan (9): a spare bit of the last byte is set, the count is not that of the
- *   set bits, or the tally is not the sum of their numbers' arrays. A draw on a copy of the record tells whether it fits.
- * - A refused start or draw stores the record's old count back, so the record has to be writable in any case.
+ *   set bits, the rounds are above LUFODIMI_MOST_ROUNDS, no number is free, a number is taken after the last round, or the tally is not
+ *   the rounds times the table plus the arrays of the numbers taken in this round. A draw of 0 on a copy of the record tells whether it
+ *   fits: it returns 0, 10 or 13.
+ * - A refused start or draw stores the record's old count and rounds back, so the record has to be writable in any case.
  *
  * No call keeps a pointer, none uses a heap, none has a state of its own, so calls may run at the same time on different buffers.
  * Planning needs about 60 KB of stack, variances about 55 KB, every other call less than 8 KB.
@@ -39,6 +41,9 @@ extern "C" {
 #define LUFODIMI_MOST_COLUMNS 12
 #define LUFODIMI_LARGEST_DENOMINATOR 65535
 
+/* How many rounds a campaign has. */
+#define LUFODIMI_MOST_ROUNDS 1000
+
 /* The shortest and the longest stored plan, in bytes. */
 #define LUFODIMI_SHORTEST_PLAN 30
 #define LUFODIMI_LONGEST_PLAN 50912
@@ -52,23 +57,25 @@ extern "C" {
 /* What a call returns, but for the length of a plan. */
 enum lufodimi_answer {
     LUFODIMI_DONE = 0,
-    LUFODIMI_SIZE = 1,        /* rows or columns not from 1 to 12 */
-    LUFODIMI_DENOMINATOR = 2, /* denominator not from 1 to 65,535 */
-    LUFODIMI_CELL_COUNT = 3,  /* the cells are not rows times columns many */
-    LUFODIMI_LARGE_CELL = 4,  /* a cell above 1000 times the denominator */
-    LUFODIMI_LAYOUT = 5,      /* the stored plan's form, zero field, rows, columns, arrays, denominator, an offset or the length wrong */
-    LUFODIMI_CONTENT = 6,     /* another condition of opening unmet: a cell, a weight or a count, or what they add up to */
-    LUFODIMI_BUFFER = 7,      /* a lent buffer shorter than its result or record */
-    LUFODIMI_NUMBER = 8,      /* draw number not below the denominator */
-    LUFODIMI_RECORD = 9,      /* the record does not fit the plan */
-    LUFODIMI_TAKEN = 10,      /* the number is taken */
-    LUFODIMI_MULTIPLE = 11,   /* the least common multiple of the two denominators is above 65,535 */
-    LUFODIMI_POOLED_CELL = 12 /* a pooled cell is above 1000 times the multiple */
+    LUFODIMI_SIZE = 1,         /* rows or columns not from 1 to 12 */
+    LUFODIMI_DENOMINATOR = 2,  /* denominator not from 1 to 65,535 */
+    LUFODIMI_CELL_COUNT = 3,   /* the cells are not rows times columns many */
+    LUFODIMI_LARGE_CELL = 4,   /* a cell above 1000 times the denominator */
+    LUFODIMI_LAYOUT = 5,       /* the stored plan's form, zero field, rows, columns, arrays, denominator, an offset or the length wrong */
+    LUFODIMI_CONTENT = 6,      /* another condition of opening unmet: a cell, a weight or a count, or what they add up to */
+    LUFODIMI_BUFFER = 7,       /* a lent buffer shorter than its result or record */
+    LUFODIMI_NUMBER = 8,       /* draw number not below the denominator */
+    LUFODIMI_RECORD = 9,       /* the record does not fit the plan */
+    LUFODIMI_TAKEN = 10,       /* the number is taken in this round */
+    LUFODIMI_MULTIPLE = 11,    /* the least common multiple of the two denominators is above 65,535 */
+    LUFODIMI_POOLED_CELL = 12, /* a pooled cell is above 1000 times the multiple */
+    LUFODIMI_ROUNDS = 13       /* the 1,000 rounds of the campaign are done */
 };
 
-/* The part of a campaign record that is no buffer: how many numbers are taken. */
+/* The part of a campaign record that is no buffer: how many numbers are taken in this round, and how many rounds are completed. */
 struct lufodimi_record {
     uint32_t taken;
+    uint16_t rounds;
 };
 
 /* Writes the first controlled rounding of a table: rows times columns counts, in row order. Refusals 1, 2, 3, 4, 7. */
@@ -112,15 +119,18 @@ uint32_t lufodimi_draw(const uint8_t *plan, size_t plan_length, uint32_t number,
  * 7, in this order. */
 uint32_t lufodimi_variances(const uint8_t *plan, size_t plan_length, int64_t *numerators, size_t numerators_length);
 
-/* Starts a campaign, whatever the record held: sets to zero the count, (denominator + 7) / 8 bytes of bits, one bit for each draw number,
- * and rows times columns numbers of the tally, one for each cell. Refusals 5, 6, 7. */
+/* Starts a campaign, whatever the record held: sets to zero the count, the rounds, (denominator + 7) / 8 bytes of bits, one bit for each
+ * draw number, and rows times columns numbers of the tally, one for each cell. Refusals 5, 6, 7. */
 uint32_t lufodimi_start(const uint8_t *plan, size_t plan_length, struct lufodimi_record *record,
-                        uint8_t *bits, size_t bits_length, uint32_t *tally, size_t tally_length);
+                        uint8_t *bits, size_t bits_length, uint64_t *tally, size_t tally_length);
 
 /* Takes a number: writes its array, rows times columns counts, adds it to the tally, sets its bit (bit number mod 8, the lowest first, of
- * byte number / 8) and counts it. Bits and tally need what a start sets. Refusals 5, 6, 7, 8, 9, 10. */
+ * byte number / 8) and counts it. The last free number completes the round: one is added to the rounds, and the count and the
+ * (denominator + 7) / 8 bytes of bits are set to zero, so that the next round begins with all numbers free; the tally goes on. The count
+ * is thus never the denominator. After LUFODIMI_MOST_ROUNDS rounds no number is taken any more (13). Bits and tally need what a start
+ * sets. Refusals 5, 6, 7, 8, 9, 13, 10, in this order. */
 uint32_t lufodimi_campaign_draw(const uint8_t *plan, size_t plan_length, uint32_t number, struct lufodimi_record *record,
-                                uint8_t *bits, size_t bits_length, uint32_t *tally, size_t tally_length,
+                                uint8_t *bits, size_t bits_length, uint64_t *tally, size_t tally_length,
                                 uint16_t *counts, size_t counts_length);
 
 #ifdef __cplusplus

@@ -2,7 +2,7 @@
 
     stored = lufodimi.plan(2, 2, 10, [3, 4, 5, 6])      # rows, columns, denominator, cells in row order; bytes to keep
     campaign = lufodimi.Campaign(lufodimi.Plan(stored))
-    while campaign.free:
+    while campaign.rounds < 1:                          # a round takes every number once, and the next one begins by itself
         counts = campaign.draw_random()                 # how many cartons of each cell to open
     assert campaign.tally == campaign.plan.cells
 
@@ -21,12 +21,12 @@ import os
 import pathlib
 import secrets
 import struct
-from ctypes import POINTER, c_char_p, c_int64, c_size_t, c_uint8, c_uint16, c_uint32
+from ctypes import POINTER, c_char_p, c_int64, c_size_t, c_uint8, c_uint16, c_uint32, c_uint64
 from typing import Iterable, NamedTuple
 
-LONGEST_PLAN, SHORTEST_PLAN, MOST_CELLS = 50_912, 30, 144
-# A stored record: how it begins (LUFR, form 1, zero), how many numbers are taken, how many bytes of bits and sums of the tally follow.
-_BEGIN, _HEAD = b"LUFR\1\0\0\0", struct.Struct("<8sIII")
+LONGEST_PLAN, SHORTEST_PLAN, MOST_CELLS, MOST_ROUNDS = 50_912, 30, 144, 1_000
+# A stored record: LUFR, the form, the rounds, how many numbers are taken, how many bytes of bits and sums of the tally follow. Form 1 has no rounds, but zero.
+_HEAD, _SUMS = struct.Struct("<4sHHIII"), {1: "I", 2: "Q"}
 SENTENCES = {
     1: "The table has not from 1 to 12 rows and from 1 to 12 columns.",
     2: "The denominator is not from 1 to 65,535.",
@@ -40,11 +40,12 @@ SENTENCES = {
     10: "The number is taken.",
     11: "The least common multiple of the two denominators is above 65,535.",
     12: "A pooled cell is above 1000 times the multiple.",
+    13: "The 1,000 rounds of the campaign are done.",
 }
 
 
 class Refusal(Exception):
-    """Why a call turned its input back: its `number`, from 1 to 12 (7 cannot occur here), and as text its sentence."""
+    """Why a call turned its input back: its `number`, from 1 to 13 (7 cannot occur here), and as text its sentence."""
 
     def __init__(self, number: int):
         super().__init__(SENTENCES[number])
@@ -54,6 +55,12 @@ class Refusal(Exception):
         return f"Refusal {self.number}: {self}"
 
 
+class _Record(ctypes.Structure):
+    """The part of a campaign record that is no buffer."""
+
+    _fields_ = [("taken", c_uint32), ("rounds", c_uint16)]
+
+
 _path = os.environ.get("LUFODIMI_LIBRARY") or str(pathlib.Path(__file__).resolve().parents[1] / "target/staticlib/liblufodimi.so")
 try:
     # The calls of a PyDLL keep Python's own lock, so that no other thread writes to a record while it is lent.
@@ -61,7 +68,7 @@ try:
 except OSError as error:
     raise ImportError(f"lufodimi's shared object cannot be loaded ({error}); LUFODIMI_LIBRARY names it") from None
 _words, _counts, _plan = [POINTER(c_uint32), c_size_t], [POINTER(c_uint16), c_size_t], [c_char_p, c_size_t]
-_table, _record = [c_uint32] * 3 + _words, [POINTER(c_uint32), POINTER(c_uint8), c_size_t] + _words
+_table, _record = [c_uint32] * 3 + _words, [POINTER(_Record), POINTER(c_uint8), c_size_t, POINTER(c_uint64), c_size_t]
 _library.lufodimi_round.argtypes = _table + _counts
 _library.lufodimi_pool.argtypes = _table + [c_uint32] + _words * 3
 _library.lufodimi_plan.argtypes = _table + _plan
@@ -158,55 +165,67 @@ class Plan:
 
 
 class Campaign:
-    """Draws that use every number of a plan once. It starts anew, or goes on from the `record` of an earlier one: refusal 9 if that does not fit the plan,
-    and ValueError if the bytes are no stored record, as where a file was cut short."""
+    """Draws in rounds that use every number of a plan once; a new round begins by itself, until 1,000 are completed. It starts anew, or goes on from the
+    `record` of an earlier one: refusal 9 if that does not fit the plan, and ValueError if the bytes are no stored record, as where a file was cut short. A
+    record of form 1, from before there were rounds, has completed none, or one if all its numbers are taken."""
 
     def __init__(self, plan: Plan, record: bytes | None = None):
         self.plan = plan
-        self._taken, self._bits, self._tally = c_uint32(), (c_uint8 * ((plan.denominator + 7) // 8))(), (c_uint32 * len(plan.cells))()
-        self._lent = ctypes.byref(self._taken), self._bits, len(self._bits), self._tally, len(self._tally)
+        self._counted, self._bits, self._tally = _Record(), (c_uint8 * ((plan.denominator + 7) // 8))(), (c_uint64 * len(plan.cells))()
+        self._lent = ctypes.byref(self._counted), self._bits, len(self._bits), self._tally, len(self._tally)
         _call("start", plan.stored, len(plan.stored), *self._lent)
         if record is not None:
             self._restore(memoryview(record).tobytes())
             try:
                 self.draw(0)  # tells whether the record fits the plan, and is undone below
             except Refusal as refusal:
-                if refusal.number != 10:
+                if refusal.number not in (10, 13):
                     raise
             self._restore(memoryview(record).tobytes())
 
     def _restore(self, record: bytes) -> None:
-        begin, taken, bits, tally = _HEAD.unpack(record[: _HEAD.size].ljust(_HEAD.size, b"\0"))
-        if begin != _BEGIN or len(record) != _HEAD.size + bits + 4 * tally:
-            raise ValueError("the bytes are not a stored record of form 1")
+        begin, form, rounds, taken, bits, tally = _HEAD.unpack(record[: _HEAD.size].ljust(_HEAD.size, b"\0"))
+        if begin != b"LUFR" or form not in _SUMS or (form == 1 and rounds != 0):
+            raise ValueError("the bytes are not a stored record of form 1 or 2")
+        if len(record) != _HEAD.size + bits + tally * struct.calcsize("<" + _SUMS[form]):
+            raise ValueError("the stored record is cut short or too long")
         if (bits, tally) != (len(self._bits), len(self._tally)):
             raise Refusal(9)
-        self._taken.value, self._bits[:] = taken, record[_HEAD.size : _HEAD.size + bits]
-        self._tally[:] = struct.unpack_from(f"<{tally}I", record, _HEAD.size + bits)
+        self._counted.taken, self._counted.rounds, self._bits[:] = taken, rounds, record[_HEAD.size : _HEAD.size + bits]
+        self._tally[:] = struct.unpack_from(f"<{tally}{_SUMS[form]}", record, _HEAD.size + bits)
+        all_taken = ((1 << self.plan.denominator) - 1).to_bytes(bits, "little")
+        if (rounds, taken, bytes(self._bits)) == (0, self.plan.denominator, all_taken):
+            # No record has all numbers taken any more: an old one at its end is a completed round.
+            self._counted.taken, self._counted.rounds, self._bits[:] = 0, 1, bytes(bits)
 
     def draw(self, number: int) -> list[int]:
-        """Takes a number and gives its array. Chances hold only if it is drawn evenly among the free ones. Refusals 8, 10."""
+        """Takes a number and gives its array; the last free number completes the round. Chances hold only if it is drawn evenly among the free ones.
+        Refusals 8, 13, 10, in this order."""
         counts = (c_uint16 * len(self.plan.cells))()
         _call("campaign_draw", self.plan.stored, len(self.plan.stored), _word(number), *self._lent, counts, len(counts))
         return list(counts)
 
     def draw_random(self) -> list[int]:
-        """Takes one of the free numbers, each with the same chance, by the operating system's random numbers; ValueError if none is free."""
-        if not self.free:
-            raise ValueError("every number is taken")
+        """Takes one of the free numbers, each with the same chance, by the operating system's random numbers. Refusal 13."""
         return self.draw(secrets.choice(self.free))
 
     @property
     def free(self) -> list[int]:
-        """The numbers that are not taken."""
+        """The numbers that are not taken in this round, of which there is always one; after 1,000 rounds all, though draws are refused then."""
         return [number for number in range(self.plan.denominator) if not self._bits[number // 8] >> number % 8 & 1]
 
     @property
     def tally(self) -> list[int]:
-        """The sum of the arrays drawn so far; after the last draw it is the table's cells."""
+        """The sum of the arrays drawn so far, in all rounds; after a completed round it is the rounds times the table's cells."""
         return list(self._tally)
 
     @property
+    def rounds(self) -> int:
+        """How many rounds are completed, from 0 to 1,000."""
+        return self._counted.rounds
+
+    @property
     def record(self) -> bytes:
-        """What to keep so that the campaign can go on later, in the form of the Rust crate's records."""
-        return _HEAD.pack(_BEGIN, self._taken.value, len(self._bits), len(self._tally)) + bytes(self._bits) + bytes(self._tally)
+        """What to keep so that the campaign can go on later, in the form of the Rust crate's records, which is 2."""
+        head = _HEAD.pack(b"LUFR", 2, self._counted.rounds, self._counted.taken, len(self._bits), len(self._tally))
+        return head + bytes(self._bits) + bytes(self._tally)

@@ -147,13 +147,30 @@ class Tests(unittest.TestCase):
         self.refused(10, run.draw, 3)
         self.assertEqual(run.record, before)
 
-    def test_campaign_to_its_end(self):
+    def test_campaign_over_rounds(self):
         run = campaign()
-        self.assertEqual((run.free, run.tally), (list(range(10)), [0, 0, 0, 0]))
-        self.assertEqual([run.draw(number) for number in range(10)], ARRAYS)
-        self.assertEqual((run.free, run.tally), ([], CELLS))
-        self.refused(10, run.draw, 0)
-        self.assertRaises(ValueError, run.draw_random)
+        self.assertEqual((run.rounds, run.free, run.tally), (0, list(range(10)), [0, 0, 0, 0]))
+        for rounds in (1, 2, 3):
+            self.assertEqual([run.draw(number) for number in range(9)], ARRAYS[:9])
+            self.assertEqual((run.rounds, run.free), (rounds - 1, [9]))
+            self.refused(10, run.draw, 0)
+            self.assertEqual(run.draw(9), ARRAYS[9])
+            self.assertEqual((run.rounds, run.free, run.tally), (rounds, list(range(10)), [rounds * cell for cell in CELLS]))
+
+    def test_campaign_to_its_end(self):
+        run = lufodimi.Campaign(lufodimi.Plan(lufodimi.plan(1, 2, 1, [1_000, 7])))
+        for rounds in range(1_000):
+            self.assertEqual(run.rounds, rounds)
+            self.assertEqual(run.draw_random(), [1_000, 7])
+        end = run.record
+        self.assertEqual((run.rounds, run.free, run.tally), (lufodimi.MOST_ROUNDS, [0], [1_000_000, 7_000]))
+        self.refused(13, run.draw_random)
+        self.refused(13, run.draw, 0)
+        self.refused(8, run.draw, 1)
+        self.assertEqual(run.record, end)
+        again = lufodimi.Campaign(run.plan, end)
+        self.assertEqual((again.rounds, again.record), (1_000, end))
+        self.refused(13, again.draw_random)
 
     def test_random_campaign(self):
         cells = [997 * cell % 4_001 for cell in range(12)]
@@ -162,11 +179,11 @@ class Tests(unittest.TestCase):
         for left in range(250, 0, -1):
             free = run.free
             counts = run.draw_random()
-            (number,) = set(free) - set(run.free)
+            (number,) = set(free) - set(run.free) if left > 1 else free
             self.assertEqual((len(free), counts), (left, run.plan.draw(number)))
             drawn = [one + more for one, more in zip(drawn, counts)]
             self.assertEqual(run.tally, drawn)
-        self.assertEqual((run.free, run.tally), ([], cells))
+        self.assertEqual((run.rounds, run.free, run.tally), (1, list(range(250)), cells))
 
     def test_every_free_number_can_be_drawn(self):
         first = set()
@@ -184,30 +201,87 @@ class Tests(unittest.TestCase):
         again = campaign(run.record)
         self.assertEqual((again.free, again.tally, again.record), ([1, 2, 4, 5, 6, 8, 9], [1, 1, 1, 2], run.record))
         self.refused(10, again.draw, 7)
-        while again.free:
+        while again.rounds < 1:
             again.draw_random()
         self.assertEqual(again.tally, CELLS)
         self.assertEqual(run.tally, [1, 1, 1, 2])
-        self.assertEqual(campaign(again.record).free, [])
+        again.draw(7)
+        later = campaign(again.record)
+        self.assertEqual((later.rounds, later.free, later.tally), (1, [0, 1, 2, 3, 4, 5, 6, 8, 9], [4, 4, 5, 7]))
+        self.assertEqual(later.record, again.record)
 
     def test_stored_record(self):
         run = lufodimi.Campaign(lufodimi.Plan(lufodimi.plan(1, 1, 3, [2])))
-        run.draw(2)
-        self.assertEqual(run.record, b"LUFR\1\0\0\0" + bytes([1, 0, 0, 0, 1, 0, 0, 0, 1, 0, 0, 0, 0b100, 1, 0, 0, 0]))
+        for number in (0, 1, 2, 2):
+            run.draw(number)
+        self.assertEqual(run.record, b"LUFR\2\0\1\0" + bytes([1, 0, 0, 0, 1, 0, 0, 0, 1, 0, 0, 0, 0b100, 3, 0, 0, 0, 0, 0, 0, 0]))
+
+    def test_record_of_64_bits(self):
+        plan = lufodimi.Plan(lufodimi.plan(1, 1, 65_535, [65_535_000]))
+        lengths = (8_192).to_bytes(4, "little") + b"\1\0\0\0"
+        # number 0 alone is free in the thousandth round
+        kept = b"LUFR\2\0" + (999).to_bytes(2, "little") + (65_534).to_bytes(4, "little") + lengths + (2**65_535 - 2).to_bytes(8_192, "little")
+        run = lufodimi.Campaign(plan, kept + (65_534_999_000).to_bytes(8, "little"))
+        self.assertEqual((run.rounds, run.free, run.draw(0)), (999, [0], [1_000]))
+        self.assertEqual((run.rounds, run.tally), (1_000, [65_535_000_000]))
+        self.assertEqual(lufodimi.Campaign(plan, run.record).tally, [65_535_000_000])
+        self.refused(9, lufodimi.Campaign, plan, kept + (65_534_999_000 % 2**32).to_bytes(8, "little"))
 
     def test_refusals_of_a_record(self):
         run = campaign()
-        run.draw(7)
+        for number in (*range(10), 7):
+            run.draw(number)
         for place in range(len(run.record)):
             other = bytearray(run.record)
             other[place] ^= 128
-            if place < 8 or 12 <= place < 20:  # how it begins, and the lengths
+            if place < 6 or 12 <= place < 20:  # how it begins, and the lengths
                 self.assertRaises(ValueError, campaign, other)
             else:
                 self.refused(9, campaign, other)
-        for other in (b"", b"LUFR", run.record[:-1], run.record + b"\0"):
-            self.assertRaises(ValueError, campaign, other)
+        for length in range(len(run.record)):
+            self.assertRaises(ValueError, campaign, run.record[:length])
+        self.assertRaises(ValueError, campaign, run.record + b"\0")
+        for form in (0, 1, 3):
+            self.assertRaises(ValueError, campaign, run.record[:4] + bytes([form]) + run.record[5:])
         self.refused(9, campaign, lufodimi.Campaign(lufodimi.Plan(lufodimi.plan(1, 1, 10, [3]))).record)
+
+    def stored(self, form, rounds, taken, bits, tally):
+        head = b"LUFR" + bytes([form, 0]) + rounds.to_bytes(2, "little") + bytes([taken, 0, 0, 0, 2, 0, 0, 0, 4, 0, 0, 0])
+        return head + bits.to_bytes(2, "little") + b"".join(number.to_bytes(4 * form, "little") for number in tally)
+
+    def test_refusals_of_rounds(self):
+        thousand = [1_000 * cell for cell in CELLS]
+        self.assertEqual(campaign(self.stored(2, 1_000, 0, 0, thousand)).rounds, 1_000)
+        self.refused(9, campaign, self.stored(2, 1_001, 0, 0, [1_001 * cell for cell in CELLS]))
+        self.refused(9, campaign, self.stored(2, 1_000, 1, 1, [3_000, 4_000, 5_000, 6_001]))  # a number is taken after the last round
+        self.refused(9, campaign, self.stored(2, 1, 10, 0x3FF, [6, 8, 10, 12]))  # no number is free
+
+    def test_old_records(self):
+        for number in (0, 7):
+            run = campaign(self.stored(1, 0, 1, 1 << number, ARRAYS[number]))
+            self.assertEqual((run.rounds, run.free), (0, [other for other in range(10) if other != number]))
+            self.assertEqual((run.tally, run.record), (ARRAYS[number], self.stored(2, 0, 1, 1 << number, ARRAYS[number])))
+            self.refused(10, run.draw, number)
+        for form in (1, 2):
+            run = campaign(self.stored(form, 0, 10, 0x3FF, CELLS))
+            self.assertEqual((run.rounds, run.free, run.tally), (1, list(range(10)), CELLS))
+            self.assertEqual(run.record, self.stored(2, 1, 0, 0, CELLS))
+            self.assertEqual(run.draw(0), ARRAYS[0])
+        for taken, bits, tally in (
+            (10, 0x3FF, [3, 4, 5, 7]),
+            (10, 0x3FF, [6, 8, 10, 12]),
+            (10, 0x7FF, CELLS),
+            (11, 0x7FF, CELLS),
+            (10, 0x5FF, CELLS),
+            (9, 0x3FF, CELLS),
+        ):
+            self.refused(9, campaign, self.stored(1, 0, taken, bits, tally))
+        old = self.stored(1, 0, 1, 1, [0, 0, 0, 1])
+        self.assertEqual(campaign(old).rounds, 0)
+        for length in range(len(old)):
+            self.assertRaises(ValueError, campaign, old[:length])
+        self.assertRaises(ValueError, campaign, old + b"\0")
+        self.assertRaises(ValueError, campaign, self.stored(1, 1, 1, 1, [3, 4, 5, 7]))  # form 1 has no rounds
 
     def test_integers_out_of_range(self):
         plan = lufodimi.Plan(lufodimi.plan(2, 2, 10, CELLS))
