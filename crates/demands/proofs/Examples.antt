@@ -15,7 +15,7 @@ use Rattle.rounding.specs.Rounding.{isRounding, firstRounding}
 use Rattle.form.specs.Plan.{arrayFor}
 use Rattle.form.specs.Form.{encode, head, contentsEntry, bytes, number, headRight, laidOut, decode}
 use Rattle.opening.specs.Open.{consistent}
-use Rattle.plan.specs.Rounds.{limitOf, weightOf, without, roundsFrom, planOf}
+use Rattle.rounds.specs.Rounds.{limitOf, weightOf, without, roundsFrom, planOf}
 use Rattle.plan.proofs.ZeroPlans.{zero-plan}
 use Rattle.records.specs.Record.{bitOf, within, fits}
 use Rattle.campaign.specs.Calls.{startRefusal, cleared, campaignRefusal, taking, closed, started, made}

@@ -9,13 +9,9 @@ use Rattle.order.specs.Order.{nthRow, nthColumn, rank}
 use Rattle.rounding.specs.Order.{inOrder, arrayOf, firstOf}
 use Rattle.rounding.specs.Rounding.{isRounding, firstRounding}
 use Rattle.form.specs.Form.{encode, head, contentsEntry, bytes}
-use Rattle.plan.specs.Rounds.{limitOf, weightOf, without, roundsFrom, planOf}
+use Rattle.rounds.specs.Rounds.{limitOf, weightOf, without, roundsFrom, planOf}
 use Rattle.plan.specs.Call.{planBytes, planRefusal, planAnswer}
-use Rattle.plan.specs.Examples.{limits, limited, calls, planned, said}
-
-pub limits-hold : map limited limits ≡ map (λ x. x .limit) limits
-unfolding limitOf
-limits-hold = refl
+use Rattle.plan.specs.Examples.{calls, planned, said}
 
 pub calls-hold : map planned calls ≡ map said calls
 unfolding planAnswer planRefusal planBytes due after encode head contentsEntry bytes joinTo planOf roundsFrom weightOf limitOf without tabulate sum least all total entryPlaces whole gap roundsTo nthRow nthColumn rank inOrder arrayOf firstOf isRounding firstRounding zipWith

@@ -47,7 +47,7 @@ module _ {r c d : ℕ} {g old : List ℕ} where
 -- an accepted table whose rounds are done
 module _ {r c d : ℕ} {g : List ℕ} {k : ℕ} {weights counts : List ℕ} (a : AllGathered r c d g k weights counts) where
   t : IsTable r c d g
-  t = a .rounds .table
+  t = a .rounds .reached .table
 
   pub length-ready : Bounded r c k
   length-ready = gathered-sizes a .0

@@ -29,16 +29,16 @@ use Rattle.form.proofs.Decodings.{WellShaped, decode-encode, encode-laid-out}
 use Rattle.form.proofs.Encodings.{encode-length}
 use Rattle.opening.proofs.Opening.{opens-by}
 use Rattle.form.proofs.Layouts.{plan-least, plan-most}
-use Rattle.plan.specs.Rounds.{roundsFrom, planOf}
+use Rattle.rounds.specs.Rounds.{planRounds, arraysIn, planOf}
 use Rattle.plan.specs.Call.{planBytes}
-use Rattle.plan.specs.Progress.{Progress}
+use Rattle.rounds.specs.Progress.{Progress}
 use Rattle.plan.specs.Grids.{AllGathered}
 use Rattle.plan.specs.Promises.{Promises}
-use Rattle.plan.proofs.GridMembers.{cell-in}
+use Rattle.rounds.proofs.GridMembers.{cell-in}
 use Rattle.table.proofs.Totals.{total-cell}
-use Rattle.plan.proofs.Progressing.{progress-end, end-rounds, ended}
+use Rattle.rounds.proofs.Progressing.{progress-end, end-rounds, ended}
 use Rattle.rounding.proofs.Calls.{array-small}
-use Rattle.plan.proofs.Gathering.{few-not-whole}
+use Rattle.rounds.proofs.Reaching.{few-not-whole}
 
 -- a number of a list is at most its sum
 at-most-sum : (f : Weighted → ℕ) → f (record { weight = 0; counts = [] }) ≡ 0 → (l : List Weighted) (i : ℕ) → f (arrayAt l i) ≤ sum (map f l)
@@ -59,10 +59,10 @@ total-of-zeros g h (i ∷ s) = omega (arith, h i, total-of-zeros g h s)
 
 -- the rounds of an accepted table, down to the last
 module _ {r c d : ℕ} {g : List ℕ} (t : IsTable r c d g) {k : ℕ} {left : List ℕ} {done : List Weighted} (p : Progress r c d g 0 k left done) where
-  arrays-are : roundsFrom d r c d g ≡ done
+  arrays-are : arraysIn (planRounds r c d g) ≡ done
   arrays-are = progress-end p
 
-  count-is : length (roundsFrom d r c d g) ≡ k
+  count-is : length (arraysIn (planRounds r c d g)) ≡ k
   count-is = ap length arrays-are ∙ p .count
 
   -- what is left is nothing
@@ -73,16 +73,16 @@ module _ {r c d : ℕ} {g : List ℕ} (t : IsTable r c d g) {k : ℕ} {left : Li
       go (yes h) = omega (arith, p .high (cellPlaces i) (cell-in r c i h), mul-zero (up d (total g (cellPlaces i))), total-cell left i)
       go (no h) = List·getD-eq-default left 0 {n = i} (omega (arith, p .shape .cells))
 
-  all-sums : (s : List ℕ) → sum (map (λ x. x .weight * total (x .counts) s) (roundsFrom d r c d g)) ≡ total g s
+  all-sums : (s : List ℕ) → sum (map (λ x. x .weight * total (x .counts) s) (arraysIn (planRounds r c d g))) ≡ total g s
   all-sums s = rw arrays-are (omega (arith, p .sums s, total-of-zeros left left-zero s))
 
-  all-weights : sum (map (λ x. x .weight) (roundsFrom d r c d g)) ≡ d
+  all-weights : sum (map (λ x. x .weight) (arraysIn (planRounds r c d g))) ≡ d
   all-weights = rw arrays-are (omega (arith, p .weights))
 
-  all-positive : all (λ x. leb 1 (x .weight)) (roundsFrom d r c d g) ≡ true
+  all-positive : all (λ x. leb 1 (x .weight)) (arraysIn (planRounds r c d g)) ≡ true
   all-positive = rw arrays-are (p .positive)
 
-  all-rounded : all (λ x. isRounding r c d g (x .counts)) (roundsFrom d r c d g) ≡ true
+  all-rounded : all (λ x. isRounding r c d g (x .counts)) (arraysIn (planRounds r c d g)) ≡ true
   all-rounded = rw arrays-are (p .rounded)
 
   few-arrays : k ≤ 170
@@ -100,24 +100,24 @@ module _ {r c d : ℕ} {g : List ℕ} (t : IsTable r c d g) {k : ℕ} {left : Li
 
   -- the array at a place
   module _ (i : ℕ) (h : i < k) where
-    inside : i < length (roundsFrom d r c d g)
+    inside : i < length (arraysIn (planRounds r c d g))
     inside = omega (arith, count-is)
 
-    rounds-at : isRounding r c d g (arrayAt (roundsFrom d r c d g) i .counts) ≡ true
-    rounds-at = all-elim (λ x. isRounding r c d g (x .counts)) (roundsFrom d r c d g) _ all-rounded i inside
+    rounds-at : isRounding r c d g (arrayAt (arraysIn (planRounds r c d g)) i .counts) ≡ true
+    rounds-at = all-elim (λ x. isRounding r c d g (x .counts)) (arraysIn (planRounds r c d g)) _ all-rounded i inside
 
-    counts-length : length (arrayAt (roundsFrom d r c d g) i .counts) ≡ r * c
+    counts-length : length (arrayAt (arraysIn (planRounds r c d g)) i .counts) ≡ r * c
     counts-length = rounding-length (t .shape) d _ rounds-at
 
-    count-small : (j : ℕ) → j < r * c → getD (arrayAt (roundsFrom d r c d g) i .counts) j 0 < 2 ^ 16
+    count-small : (j : ℕ) → j < r * c → getD (arrayAt (arraysIn (planRounds r c d g)) i .counts) j 0 < 2 ^ 16
     count-small j l =
         let p = place-of (t .shape) l in
         let small = array-small t _ rounds-at (j / c) (j % c) (p .row) (p .column) in
         let at = rw (cell-at (shape-of (t .shape) _ counts-length) (j / c) (j % c) (p .row) (p .column), p .is) at small in
         omega arith
 
-    weight-small : arrayAt (roundsFrom d r c d g) i .weight ≤ d
-    weight-small = omega (arith, at-most-sum (λ x. x .weight) refl (roundsFrom d r c d g) i, all-weights)
+    weight-small : arrayAt (arraysIn (planRounds r c d g)) i .weight ≤ d
+    weight-small = omega (arith, at-most-sum (λ x. x .weight) refl (arraysIn (planRounds r c d g)) i, all-weights)
 
   shaped : WellShaped (planOf r c d g)
   unfolding planOf
@@ -138,13 +138,13 @@ module _ {r c d : ℕ} {g : List ℕ} (t : IsTable r c d g) {k : ℕ} {left : Li
   unfolding planOf isRounding
   rounding-held x h = and-right (eqb (length (x .counts)) (r * c)) _ h
 
-  held-all : all (held (planOf r c d g)) (roundsFrom d r c d g) ≡ true
-  held-all = all-intro (held (planOf r c d g)) (roundsFrom d r c d g) (record { weight = 0; counts = [] })
-      (λ i h. rounding-held (arrayAt (roundsFrom d r c d g) i) (rounds-at i (omega (arith, count-is))))
+  held-all : all (held (planOf r c d g)) (arraysIn (planRounds r c d g)) ≡ true
+  held-all = all-intro (held (planOf r c d g)) (arraysIn (planRounds r c d g)) (record { weight = 0; counts = [] })
+      (λ i h. rounding-held (arrayAt (arraysIn (planRounds r c d g)) i) (rounds-at i (omega (arith, count-is))))
 
-  cells-met : (i : ℕ) → weighted (roundsFrom d r c d g) i ≡ getD g i 0
+  cells-met : (i : ℕ) → weighted (arraysIn (planRounds r c d g)) i ≡ getD g i 0
   cells-met i =
-      list-ext _ _ (roundsFrom d r c d g) (λ x m. ap (λ (n : ℕ). x .weight * n) (sym (total-cell (x .counts) i)))
+      list-ext _ _ (arraysIn (planRounds r c d g)) (λ x m. ap (λ (n : ℕ). x .weight * n) (sym (total-cell (x .counts) i)))
       ∙ all-sums (cellPlaces i)
       ∙ total-cell g i
 
@@ -157,7 +157,7 @@ module _ {r c d : ℕ} {g : List ℕ} (t : IsTable r c d g) {k : ℕ} {left : Li
       (and-both (all-intro (λ x. leb x (1000 * d)) g 0 (λ i h. le-leb _ _ (t .within i h))) all-positive)
       (eq-eqb _ _ all-weights))
       held-all)
-      (all-tabulate (λ i. eqb (weighted (roundsFrom d r c d g) i) (getD g i 0)) (r * c) (λ i. i) (λ i h. eq-eqb _ _ (cells-met i)))
+      (all-tabulate (λ i. eqb (weighted (arraysIn (planRounds r c d g)) i) (getD g i 0)) (r * c) (λ i. i) (λ i h. eq-eqb _ _ (cells-met i)))
 
   bytes-decode : decode (planBytes r c d g) ≡ planOf r c d g
   unfolding planBytes
@@ -194,10 +194,10 @@ promised t = promises t (ended t .progress)
 -- what the code has gathered is the plan
 module _ {r c d : ℕ} {g : List ℕ} {k : ℕ} {weights counts : List ℕ} (a : AllGathered r c d g k weights counts) where
   t : IsTable r c d g
-  t = a .rounds .table
+  t = a .rounds .reached .table
 
-  p : Progress r c d g 0 k (a .rounds .rest) (a .rounds .done)
-  p = a .rounds .progress
+  p : Progress r c d g 0 k (a .rounds .reached .rest) (a .rounds .reached .done)
+  p = a .rounds .reached .progress
 
   pub gathered-sizes : Bounded r c k × (1 ≤ k)
   gathered-sizes = sizes t p
@@ -205,12 +205,12 @@ module _ {r c d : ℕ} {g : List ℕ} {k : ℕ} {weights counts : List ℕ} (a :
   pub gathered-length : length (planBytes r c d g) ≡ planLength r c k
   gathered-length = bytes-length t p
 
-  held-is : (i : ℕ) → i < k → bufferedArray (r * c) weights counts i ≡ arrayAt (roundsFrom d r c d g) i
+  held-is : (i : ℕ) → i < k → bufferedArray (r * c) weights counts i ≡ arrayAt (arraysIn (planRounds r c d g)) i
   held-is i h =
-      let same : arrayAt (roundsFrom d r c d g) i ≡ arrayAt (a .rounds .done) i = ap (λ (l : List Weighted). arrayAt l i) (arrays-are t p) in
-      let w : getD weights i 0 ≡ arrayAt (roundsFrom d r c d g) i .weight = a .rounds .weight-at i h ∙ ap (λ (x : Weighted). x .weight) (sym same) in
-      let n : tabulate (r * c) (λ j. getD counts (i * (r * c) + j) 0) ≡ arrayAt (roundsFrom d r c d g) i .counts
-      = tabulate-getD (arrayAt (roundsFrom d r c d g) i .counts) (r * c) 0 _ (counts-length t p i h)
+      let same : arrayAt (arraysIn (planRounds r c d g)) i ≡ arrayAt (a .rounds .reached .done) i = ap (λ (l : List Weighted). arrayAt l i) (arrays-are t p) in
+      let w : getD weights i 0 ≡ arrayAt (arraysIn (planRounds r c d g)) i .weight = a .rounds .weight-at i h ∙ ap (λ (x : Weighted). x .weight) (sym same) in
+      let n : tabulate (r * c) (λ j. getD counts (i * (r * c) + j) 0) ≡ arrayAt (arraysIn (planRounds r c d g)) i .counts
+      = tabulate-getD (arrayAt (arraysIn (planRounds r c d g)) i .counts) (r * c) 0 _ (counts-length t p i h)
       (λ j l. a .rounds .count-at i j h l ∙ ap (λ (x : Weighted). getD (x .counts) j 0) (sym same)) in
       let make : ℕ → List ℕ → Weighted = λ x l. record { weight = x; counts = l } in
       ap₂ make w n
@@ -218,5 +218,5 @@ module _ {r c d : ℕ} {g : List ℕ} {k : ℕ} {weights counts : List ℕ} (a :
   pub plan-held : bufferedPlan (record { rows = r; columns = c; arrays = k; denominator = d }) g weights counts ≡ planOf r c d g
   unfolding planOf
   plan-held =
-      let e : tabulate k (bufferedArray (r * c) weights counts) ≡ roundsFrom d r c d g = tabulate-getD (roundsFrom d r c d g) k _ _ (count-is t p) held-is in
+      let e : tabulate k (bufferedArray (r * c) weights counts) ≡ arraysIn (planRounds r c d g) = tabulate-getD (arraysIn (planRounds r c d g)) k _ _ (count-is t p) held-is in
       rw e refl

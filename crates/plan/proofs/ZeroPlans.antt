@@ -14,11 +14,10 @@ use Rattle.table.proofs.Roundings.{rounds}
 use Rattle.rounding.specs.Rounding.{isRounding, IsFirst, firstRounding}
 use Rattle.rounding.proofs.Orders.{before-at}
 use Rattle.rounding.proofs.Roundings.{first-is}
-use Rattle.form.specs.Plan.{Weighted}
-use Rattle.plan.specs.Rounds.{limitOf, weightOf, without, roundsFrom, planOf}
-use Rattle.plan.proofs.OneRound.{attains}
+use Rattle.rounds.specs.Rounds.{limitOf, weightOf, without, Round, roundsFrom, arraysIn, planOf}
+use Rattle.rounds.proofs.OneRound.{attains}
 use Rattle.plan.proofs.Planning.{total-of-zeros}
-use Rattle.plan.proofs.Progressing.{no-more}
+use Rattle.rounds.proofs.Progressing.{no-more}
 
 zero-at : (n i : ℕ) → _≡_ {A = ℕ} (getD (replicate n 0) i 0) 0
 zero-at zero i = refl
@@ -27,7 +26,7 @@ zero-at (suc n) (suc i) = zero-at n i
 
 -- a round that takes all the weight is the last
 one-round : (r c fuel w : ℕ) → 1 ≤ w → (g n : List ℕ) → firstRounding r c w g ≡ n → weightOf r c w g (firstRounding r c w g) ≡ w
-    → 1 ≤ fuel → roundsFrom fuel r c w g ≡ record { weight = w; counts = n } ∷ []
+    → 1 ≤ fuel → roundsFrom fuel r c w g ≡ record { left = w; table = g; array = record { weight = w; counts = n } } ∷ []
 unfolding roundsFrom
 one-round r c zero w a g n e f l = absurd (omega arith)
 one-round r c (suc m) zero a g n e f l = absurd (omega arith)
@@ -36,7 +35,7 @@ one-round r c (suc m) (suc v) a g n e f l =
     let gone : suc v - x ≡ 0 = omega arith in
     let rest : roundsFrom m r c (suc v - x) (without x (firstRounding r c (suc v) g) g) ≡ [] =
     ap (λ (y : ℕ). roundsFrom m r c y (without x (firstRounding r c (suc v) g) g)) gone ∙ no-more m r c _ in
-    let make : ℕ → List ℕ → List Weighted → List Weighted = λ y k t. record { weight = y; counts = k } ∷ t in
+    let make : ℕ → List ℕ → List Round → List Round = λ y k t. record { left = suc v; table = g; array = record { weight = y; counts = k } } ∷ t in
     ap (λ (y : ℕ). make y (firstRounding r c (suc v) g) (roundsFrom m r c (suc v - x) (without x (firstRounding r c (suc v) g) g))) f
     ∙ ap (λ (k : List ℕ). make (suc v) k (roundsFrom m r c (suc v - x) (without x (firstRounding r c (suc v) g) g))) e
     ∙ ap (make (suc v) n) rest
@@ -72,9 +71,9 @@ module _ (r c d : ℕ) (hr : 1 ≤ r) (kr : r ≤ 12) (hc : 1 ≤ c) (kc : c ≤
   weight-is : weightOf r c d zeros zeros ≡ d
   weight-is = let t = attains shape d hd zeros (first .rounding) in t .is ∙ limit-is (t .at)
 
-  plan-is : roundsFrom d r c d zeros ≡ record { weight = d; counts = zeros } ∷ []
+  plan-is : roundsFrom d r c d zeros ≡ record { left = d; table = zeros; array = record { weight = d; counts = zeros } } ∷ []
   plan-is = one-round r c d d hd zeros zeros array-is (ap (weightOf r c d zeros) array-is ∙ weight-is) hd
 
   pub zero-plan : planOf r c d (replicate (r * c) 0) .arrays ≡ record { weight = d; counts = replicate (r * c) 0 } ∷ []
   unfolding planOf zeros
-  zero-plan = plan-is
+  zero-plan = ap arraysIn plan-is

@@ -1,36 +1,11 @@
--- Literal cases of limits and of the call "plan" (specification, "The plan", "Stored plan, form 1" and "Refusals"); its bytes are typed out. Assumes nothing.
+-- Literal cases of the call "plan" (specification, "Stored plan, form 1" and "Refusals"); its bytes are typed out. Assumes nothing.
 use mathlib.Core.List.{List, [], _∷_, _++_}
 use Prim.Native.Nat.{ℕ}
 use lib.ListN.{length, replicate}
 use Rattle.base.specs.Buffers.{written}
 use Rattle.refusals.specs.Due.{after}
 use Rattle.form.specs.Examples.{wide}
-use Rattle.plan.specs.Rounds.{limitOf}
 use Rattle.plan.specs.Call.{planBytes, planRefusal, planAnswer, plannedNumber}
-
--- an entry over w with its count, and its limit
-pub record Limit : Type 0 where
-  pub weight : ℕ
-  pub entry : ℕ
-  pub count : ℕ
-  pub limit : ℕ
-
-abbrev pub limitIs : ℕ → ℕ → ℕ → ℕ → Limit
-limitIs w e n l = record { weight = w; entry = e; count = n; limit = l }
-
-abbrev pub limited : Limit → ℕ
-limited x = limitOf (x .weight) (x .entry) (x .count)
-
-abbrev pub limits : List Limit
-limits =
-    -- rounded down, rounded up, whole
-    limitIs 10 3 0 7
-    ∷ limitIs 10 3 1 3
-    ∷ limitIs 10 23 2 7
-    ∷ limitIs 10 23 3 3
-    ∷ limitIs 10 20 2 10
-    ∷ limitIs 10 0 0 10
-    ∷ []
 
 -- a call: a table and a buffer; the number that it returns, and the buffer as it leaves it
 pub record Call : Type 0 where

@@ -1,72 +1,12 @@
--- What the functions of a round require and promise, on grids. Only this crate's functions cite it. Assumes nothing.
+-- What the function that gathers a plan's arrays requires and promises. Only this crate's functions cite it. Assumes nothing.
 use mathlib.Core.Path.{_≡_}
-use mathlib.Core.Bool.{true}
 use mathlib.Core.List.{List}
-use Prim.Native.Nat.{ℕ, _+_, _-_, _*_, _≤_, _<_}
+use Prim.Native.Nat.{ℕ, _+_, _*_, _<_}
 use lib.ListN.{length, getD}
-use Rattle.grid.specs.Grid.{gridOf}
-use Rattle.table.specs.Table.{maxArrays, maxDenominator, maxEntry}
-use Rattle.table.specs.Whole.{roundsTo}
-use Rattle.table.specs.Shape.{Shape, IsTable}
-use Rattle.rounding.specs.Rounding.{firstRounding}
-use Rattle.rounding.specs.Lines.{IsGrid}
-use Rattle.form.specs.Plan.{Weighted, arrayAt}
-use Rattle.plan.specs.Rounds.{limitOf, weightOf, without}
-use Rattle.plan.specs.Progress.{Progress}
-
--- an entry e and a count n that rounds it over w, with numbers that are small
-pub record LimitReady (w e n : ℕ) : Type 0 where
-  pub some : 0 < w
-  pub small : w ≤ maxDenominator
-  pub entry-small : e ≤ maxEntry
-  pub rounds : roundsTo w e n ≡ true
-
--- counts that round the entries over w, with numbers that are small: 144 · 1000 · 65,535 is the largest entry
-pub record Rounded (w : ℕ) (e n : List ℕ) : Type 0 where
-  pub some : 0 < w
-  pub small : w ≤ maxDenominator
-  pub entry-small : (k : ℕ) → getD e k 0 ≤ maxEntry
-  pub rounds : (k : ℕ) → k < 169 → roundsTo w (getD e k 0) (getD n k 0) ≡ true
-
--- the limit of each entry
-abbrev pub limitAt : ℕ → List ℕ → List ℕ → ℕ → ℕ
-limitAt w e n k = limitOf w (getD e k 0) (getD n k 0)
-
--- what the limits of such counts need, with room for them
-pub record LimitsReady (w : ℕ) (e n l : List ℕ) : Type 0 where
-  pub rounded : Rounded w e n
-  pub len : length l ≡ 169
-
--- x is the smallest of 169 numbers
-pub record Smallest (l : List ℕ) (x : ℕ) : Type 0 where
-  pub low : (k : ℕ) → k < 169 → x ≤ getD l k 0
-  pub place : ℕ
-  pub inside : place < 169
-  pub is : x ≡ getD l place 0
-
--- each entry bears x times its count
-pub record Bears (x : ℕ) (e n : List ℕ) : Type 0 where
-  pub len : length e ≡ 169
-  pub small : (k : ℕ) → getD e k 0 ≤ maxEntry
-  pub enough : (k : ℕ) → k < 169 → x * getD n k 0 ≤ getD e k 0
-
--- e' is what e has left when x times n is taken
-pub record Lost (x : ℕ) (e n e' : List ℕ) : Type 0 where
-  pub len : length e' ≡ 169
-  pub is : (k : ℕ) → k < 169 → getD e' k 0 ≡ getD e k 0 - x * getD n k 0
-
--- what a round needs: entries, a weight that is left, and room for counts
-pub record RoundReady (w : ℕ) (e n : List ℕ) : Type 0 where
-  pub grid : IsGrid e
-  pub some : 0 < w
-  pub small : w ≤ maxDenominator
-  pub len : length n ≡ 169
-
--- one round: for the table that has the entries e, n has the array's, x is its weight, and e' has the entries of what is left
-pub record RoundDone (w : ℕ) (e n : List ℕ) (x : ℕ) (e' : List ℕ) : Type 0 where
-  pub array : (r c : ℕ) (g : List ℕ) → Shape r c g → e ≡ gridOf r c g → n ≡ gridOf r c (firstRounding r c w g)
-  pub weight : (r c : ℕ) (g : List ℕ) → Shape r c g → e ≡ gridOf r c g → x ≡ weightOf r c w g (firstRounding r c w g)
-  pub left : (r c : ℕ) (g : List ℕ) → Shape r c g → e ≡ gridOf r c g → e' ≡ gridOf r c (without x (firstRounding r c w g) g)
+use Rattle.table.specs.Table.{maxArrays}
+use Rattle.table.specs.Shape.{IsTable}
+use Rattle.form.specs.Plan.{arrayAt}
+use Rattle.rounds.specs.Grids.{Reached}
 
 -- the counts of the largest plan: 170 arrays of 144 cells
 abbrev pub maxCounts : ℕ
@@ -78,17 +18,13 @@ pub record RoundsReady (r c d : ℕ) (g weights counts : List ℕ) : Type 0 wher
   pub weights-room : length weights ≡ maxArrays
   pub counts-room : length counts ≡ maxCounts
 
--- where the rounds stand: what is left, and the weights and arrays so far, in a scratch for those of the largest plan
+-- where the rounds stand, and the weights and arrays so far, in a scratch for those of the largest plan
 pub record Gathered (r c d : ℕ) (g : List ℕ) (w k : ℕ) (e weights counts : List ℕ) : Type 0 where
-  pub table : IsTable r c d g
-  pub rest : List ℕ
-  pub done : List Weighted
-  pub progress : Progress r c d g w k rest done
-  pub grid : e ≡ gridOf r c rest
+  pub reached : Reached r c d g w k e
   pub weights-len : length weights ≡ maxArrays
   pub counts-len : length counts ≡ maxCounts
-  pub weight-at : (i : ℕ) → i < k → getD weights i 0 ≡ arrayAt done i .weight
-  pub count-at : (i j : ℕ) → i < k → j < r * c → getD counts (i * (r * c) + j) 0 ≡ getD (arrayAt done i .counts) j 0
+  pub weight-at : (i : ℕ) → i < k → getD weights i 0 ≡ arrayAt (reached .done) i .weight
+  pub count-at : (i j : ℕ) → i < k → j < r * c → getD counts (i * (r * c) + j) 0 ≡ getD (arrayAt (reached .done) i .counts) j 0
 
 -- no weight is left
 pub record AllGathered (r c d : ℕ) (g : List ℕ) (k : ℕ) (weights counts : List ℕ) : Type 0 where

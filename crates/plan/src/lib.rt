@@ -1,4 +1,4 @@
-// The plan of a table: Ernst's rounds, and the plan in stored form 1.
+// The plan of a table in stored form 1.
 ghost use mathlib.Core.Path.{_≡_};
 ghost use mathlib.Core.List.{List, map};
 ghost use mathlib.Core.Option.{none};
@@ -6,9 +6,9 @@ ghost use Prim.Native.Nat.{ℕ};
 ghost use Rattle.table.specs.Check.{tableRefusal};
 ghost use Rattle.table.specs.Shape.{IsTable};
 ghost use Rattle.plan.specs.Call.{PlanAnswers, plannedNumber};
-ghost use Rattle.plan.specs.Examples.{limits, limited, calls, planned, said};
+ghost use Rattle.plan.specs.Examples.{calls, planned, said};
 ghost use Rattle.plan.specs.Promises.{Promises};
-use crate::rounds::rounds;
+use crate::gather::gather;
 use base::convert::u64_to_u32;
 use form::Sizes;
 use form::layout::plan_length;
@@ -18,9 +18,7 @@ use table::Table;
 use table::check::check;
 use writing::write;
 
-mod limits;
-mod round;
-mod rounds;
+mod gather;
 
 // What planning a table answers: the length of the stored plan, or why there is none.
 pub enum Planned {
@@ -43,7 +41,7 @@ fn plan_table(t: Table, cells: &[u32], plan: &mut [u8]) -> Planned
     let columns = t.columns;
     let mut weights = [0u32; WEIGHTS];
     let mut counts = [0u16; COUNTS];
-    let arrays = rounds(t, cells, &mut weights, &mut counts);
+    let arrays = gather(t, cells, &mut weights, &mut counts);
     let length = plan_length(rows, columns, arrays);
     if plan.len() < length {
         return Planned::Refused(Refusal::Buffer);
@@ -79,9 +77,8 @@ pub fn planned_number(r: Planned) -> u32
     }
 }
 
-// What the plan of every accepted table keeps; and the literal cases are as stated: limits, and calls, with 7 beside each other refusal.
+// What the plan of every accepted table keeps; and the literal calls are as stated, with 7 beside each other refusal.
 pub fn claims()
     ensures promises { λ _. ⌜ ((r c d : ℕ) (g : List ℕ) → tableRefusal r c d g ≡ none → Promises r c d g) ⌝ }
-    ensures limits { λ _. ⌜ map limited limits ≡ map (λ x. x .limit) limits ⌝ }
     ensures calls { λ _. ⌜ map planned calls ≡ map said calls ⌝ }
 {}

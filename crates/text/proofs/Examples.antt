@@ -9,7 +9,7 @@ use Rattle.table.specs.Check.{tableRefusal}
 use Rattle.order.specs.Order.{nthRow, nthColumn, rank}
 use Rattle.rounding.specs.Order.{inOrder, arrayOf, firstOf}
 use Rattle.rounding.specs.Rounding.{isRounding, firstRounding}
-use Rattle.plan.specs.Rounds.{limitOf, weightOf, without, roundsFrom, planOf}
+use Rattle.rounds.specs.Rounds.{limitOf, weightOf, without, roundsFrom, planOf}
 use Rattle.printing.specs.Lines.{digits, decimal, spaced, line, refused}
 use Rattle.text.specs.Text.{numbersFrom, parse, printedLines, lineNumbers, listing, output}
 use Rattle.text.specs.Examples.{parses, outputs}

@@ -10,7 +10,7 @@ use Rattle.refusals.specs.Numbers.{numberOf}
 use Rattle.refusals.specs.Due.{refusedOr}
 use Rattle.table.specs.Check.{tableRefusal}
 use Rattle.form.specs.Plan.{Plan}
-use Rattle.plan.specs.Rounds.{planOf}
+use Rattle.rounds.specs.Rounds.{planOf}
 use Rattle.printing.specs.Lines.{line, refusedWord, refused}
 
 -- the longest text

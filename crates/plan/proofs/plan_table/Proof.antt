@@ -12,7 +12,7 @@ returns c = search (needs, too-short)
 write-requires : tie.Need-write-requires
 write-requires c κs =
     let l = c .before .before .before .before .before in
-    writable (l .before .before .before .rounds .ensures) (l .plan-length .ensures) (c .before .before .before .before .if1 .left)
+    writable (l .before .before .before .gather .ensures) (l .plan-length .ensures) (c .before .before .before .before .if1 .left)
 
 returns-2 : tie.Need-returns-2
 returns-2 c = search (needs, long-enough)

@@ -1,0 +1,10 @@
+pub mod Examples
+pub mod Entries
+pub mod Leasts
+pub mod Losses
+pub mod GridMembers
+pub mod OneRound
+pub mod Progressing
+pub mod LimitLoops
+pub mod GridRounds
+pub mod Reaching

@@ -1,0 +1,10 @@
+-- `rounds::claims` states what proofs/Examples.antt proves.
+use Rattle.rounds.proofs.Examples.{limits-hold}
+use Rattle.rounds.proofs.claims.Statement.{statement}
+use Rattle.rounds.proofs.claims.Tie as tie
+
+returns : tie.Need-returns
+returns k = limits-hold
+
+pub claims-spec : {M : Type 1} → statement M
+claims-spec = tie.close (tie.spec returns)

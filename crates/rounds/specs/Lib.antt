@@ -1,0 +1,4 @@
+pub mod Rounds
+pub mod Examples
+pub mod Progress
+pub mod Grids
