@@ -2,6 +2,7 @@
 ghost use Rattle.base.specs.Widths.{Widened};
 
 pub mod convert;
+pub mod write;
 
 // A number of 32 bits in 64, with its bound.
 pub fn wide(x: u32) -> u64

@@ -1,5 +1,5 @@
 -- The ways through the call "pool". Assumes nothing.
-use mathlib.Core.Path.{_≡_, refl, sym, ap, _∙_}
+use mathlib.Core.Path.{_≡_, sym, ap, _∙_}
 use mathlib.Core.Bool.{Bool, true, false, not, _||_}
 use mathlib.Core.List.{List, [], _∷_}
 use mathlib.Core.Option.{some, none}
@@ -9,6 +9,7 @@ use lib.ListN.{length, set}
 use lib.Dec.{ltb}
 use borrow.Author.Tests.{lt-ltb, le-ltb, ltb-true, ltb-false, not-true, not-false}
 use Rattle.base.specs.Buffers.{written}
+use Rattle.base.proofs.Buffers.{one-set}
 use Rattle.refusals.specs.declared.Refusal.{Refusal}
 use Rattle.refusals.specs.declared.Refusal.the-variants.{Multiple, PooledCell, Buffer}
 use Rattle.refusals.specs.declared.Answer.{Answer}
@@ -30,11 +31,6 @@ use Rattle.pool.proofs.Pooling.{multiple-due, cell-due, nothing-due}
 -- the multiple fits 32 bits where it is not above its bound
 pub multiple-narrow : (m : ℕ) → ltb 65535 m ≡ false → m ≤ 4294967295
 multiple-narrow m h = omega (arith, ltb-false 65535 m h)
-
--- a number stored at the start
-first-set : (l : List ℕ) (x : ℕ) → 1 ≤ length l → set l 0 x ≡ written (x ∷ []) l
-first-set [] x h = absurd (omega arith)
-first-set (y ∷ l) x h = refl
 
 -- the call's answer, by what is due
 module _ (r c d : ℕ) (g : List ℕ) (e : ℕ) (h numbers cells : List ℕ) where
@@ -65,7 +61,7 @@ module _ (r c d : ℕ) (g : List ℕ) (e : ℕ) (h numbers cells : List ℕ) whe
       unfolding due
       both-written {x} {new} l p q =
           accepted-so (buffer-by ∙ simp (le-ltb (length numbers) 1 some, le-ltb (length cells) (r * c) l))
-          (let a : set numbers 0 x ≡ written (leastMultiple d e ∷ []) numbers = first-set numbers x some ∙ ap (λ (y : ℕ). written (y ∷ []) numbers) p in cc)
+          (let a : set numbers 0 x ≡ written (leastMultiple d e ∷ []) numbers = one-set numbers x some ∙ ap (λ (y : ℕ). written (y ∷ []) numbers) p in cc)
 
 -- what the code knows of two parts that were accepted, of their scale and of their pooled cells
 module _ (r c d : ℕ) (g : List ℕ) (e : ℕ) (h : List ℕ) {k : Parts} (is : k ≡ partsAnswer r c d g e h) {p : Pair} (q : k ≡ Accepted p) where
