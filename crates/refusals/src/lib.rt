@@ -36,6 +36,8 @@ pub enum Refusal {
     PooledCell,
     // all rounds of the campaign are done
     Rounds,
+    // the plan has no array of that number
+    Array,
 }
 
 // What a call answers that returns nothing but its success.
@@ -62,6 +64,7 @@ pub fn number(r: Refusal) -> u32
         Refusal::Multiple => 11,
         Refusal::PooledCell => 12,
         Refusal::Rounds => 13,
+        Refusal::Array => 14,
     }
 }
 

@@ -27,6 +27,12 @@ too-small bound n h = simp (lt-leb 1 n h)
 pub small-enough : (bound n : ℕ) → 1 ≤ n → leb n bound ≡ upTo bound n
 small-enough bound n h = simp (le-leb 1 n h)
 
+pub inside : (bound n : ℕ) → 1 ≤ n → n ≤ bound → upTo bound n ≡ true
+inside bound n h l = sym (small-enough bound n h) ∙ le-leb n bound l
+
+pub too-large : (bound n : ℕ) → bound < n → false ≡ upTo bound n
+too-large bound n h = let some : 1 ≤ n = omega arith in simp (le-leb 1 n some, lt-leb n bound h)
+
 pub upTo-low : (bound n : ℕ) → upTo bound n ≡ true → 1 ≤ n
 upTo-low bound n h = leb-true 1 n (and-left (leb 1 n) (leb n bound) h)
 

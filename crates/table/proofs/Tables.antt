@@ -16,16 +16,16 @@ use Rattle.table.specs.Shape.{IsTable}
 use Rattle.table.specs.declared.Table.{Table}
 use Rattle.table.specs.declared.Checked.{Checked}
 use Rattle.table.specs.declared.Checked.the-variants as checked
-use Rattle.table.proofs.Checks.{small-enough, Taken, accepted, refused}
+use Rattle.table.proofs.Checks.{inside, Taken, accepted, refused}
 
 pub table-accepted : {r c d : ℕ} {g : List ℕ} → IsTable r c d g → tableRefusal r c d g ≡ none
 unfolding tableRefusal due
 table-accepted {r} {c} {d} {g} t =
     let s = t .shape in
     simp (
-      sym (small-enough 12 r (s .some-rows)) ∙ le-leb r 12 (s .rows),
-      sym (small-enough 12 c (s .some-columns)) ∙ le-leb c 12 (s .columns),
-      sym (small-enough 65535 d (t .some-denominator)) ∙ le-leb d 65535 (t .denominator),
+      inside 12 r (s .some-rows) (s .rows),
+      inside 12 c (s .some-columns) (s .columns),
+      inside 65535 d (t .some-denominator) (t .denominator),
       eq-eqb _ _ (s .cells),
       within,
     )
