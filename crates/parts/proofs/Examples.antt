@@ -8,7 +8,8 @@ use Rattle.refusals.specs.Due.{due, answerOf, after}
 use Rattle.form.specs.Form.{number, decode, headRight, laidOut}
 use Rattle.opening.specs.Open.{consistent}
 use Rattle.parts.specs.Parts.{partRefusal}
-use Rattle.parts.specs.Examples.{sizeCases, toldSizes, cellCases, toldCells, said}
+use Rattle.parts.specs.Array.{arrayRefusal}
+use Rattle.parts.specs.Examples.{sizeCases, toldSizes, cellCases, toldCells, said, arrayCases, toldArray, saidArray}
 
 pub sizes-hold : map toldSizes sizeCases ≡ map said sizeCases
 unfolding partRefusal due answerOf after number headRight laidOut decode consistent tabulate sum all total entryPlaces whole roundsTo
@@ -17,3 +18,7 @@ sizes-hold = refl
 pub cells-hold : map toldCells cellCases ≡ map said cellCases
 unfolding partRefusal due answerOf after number headRight laidOut decode consistent tabulate sum all total entryPlaces whole roundsTo
 cells-hold = refl
+
+pub arrays-hold : map toldArray arrayCases ≡ map saidArray arrayCases
+unfolding arrayRefusal due answerOf after number headRight laidOut decode consistent tabulate sum all total entryPlaces whole roundsTo
+arrays-hold = refl

@@ -1,9 +1,9 @@
 -- What the calls that tell a plan's parts answer and write, by the tests on their way. Assumes nothing.
-use mathlib.Core.Path.{_≡_, refl, sym, _∙_}
+use mathlib.Core.Path.{_≡_, sym, _∙_}
 use mathlib.Core.List.{List, [], _∷_}
 use Prim.Native.Nat.{ℕ, _*_, _<_, _≤_}
 use native.Mathlib.Omega.{arith}
-use lib.ListN.{length, set, length-set}
+use lib.ListN.{length}
 use lib.Dec.{ltb}
 use mir.Val.{Fits}
 use mir.Syntax.{w64}
@@ -26,24 +26,6 @@ use Rattle.opening.specs.declared.Opened.the-variants as opened
 use Rattle.opening.specs.Open.{openTests, openRefusal, openAnswer}
 use Rattle.opening.proofs.Opening.{is-open, is-refused, opened-sized, sizes-product}
 use Rattle.parts.specs.Parts.{sizeNumbers, partRefusal, SizesReady}
-
--- four numbers stored one after another
-four-set : (l : List ℕ) (a b c d : ℕ) → 4 ≤ length l → set (set (set (set l 0 a) 1 b) 2 c) 3 d ≡ written (a ∷ b ∷ c ∷ d ∷ []) l
-four-set [] a b c d h = absurd (omega arith)
-four-set (x ∷ []) a b c d h = absurd (omega arith)
-four-set (x ∷ y ∷ []) a b c d h = absurd (omega arith)
-four-set (x ∷ y ∷ z ∷ []) a b c d h = absurd (omega arith)
-four-set (x ∷ y ∷ z ∷ w ∷ l) a b c d h = refl
-
-pub sizes-stored : {s : Sizes} {l : List ℕ} → SizesReady s l
-    → set (set (set (set l 0 (s .rows)) 1 (s .columns)) 2 (s .arrays)) 3 (s .denominator) ≡ written (s .rows ∷ s .columns ∷ s .arrays ∷ s .denominator ∷ []) l
-sizes-stored {l = l} h = four-set l _ _ _ _ (h .room)
-
-pub second-room : {s : Sizes} {l : List ℕ} → SizesReady s l → (a : ℕ) → 1 < length (set l 0 a)
-second-room {l = l} h a = omega (arith, h .room, length-set l 0 a)
-
-pub third-room : {s : Sizes} {l : List ℕ} → SizesReady s l → (a b : ℕ) → 2 < length (set (set l 0 a) 1 b)
-third-room {l = l} h a b = omega (arith, h .room, length-set l 0 a, length-set (set l 0 a) 1 b)
 
 -- a call that needs n elements of a buffer of `room`, by what is due; `old` is what the buffer holds
 module _ {ℓ} {A : Type ℓ} (b : List ℕ) (old : A) (n room : ℕ) {o : Opened} (is : o ≡ openAnswer b) where

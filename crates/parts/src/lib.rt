@@ -1,4 +1,4 @@
-// What a stored plan has: its sizes, and its table.
+// What a stored plan has: its sizes, its table and its arrays.
 ghost use mathlib.Core.Path.{_≡_};
 ghost use mathlib.Core.List.{[], _∷_, map};
 ghost use lib.ListN.{length};
@@ -7,7 +7,8 @@ ghost use Rattle.refusals.specs.Due.{Answers};
 ghost use Rattle.form.specs.Plan.{cellCount};
 ghost use Rattle.form.specs.Form.{decode};
 ghost use Rattle.parts.specs.Parts.{sizeNumbers, partRefusal, SizesReady};
-ghost use Rattle.parts.specs.Examples.{sizeCases, toldSizes, cellCases, toldCells, said};
+ghost use Rattle.parts.specs.Examples.{sizeCases, toldSizes, cellCases, toldCells, said, arrayCases, toldArray, saidArray};
+use base::write::write_four;
 use form::Sizes;
 use form::read::read_table;
 use opening::Opened;
@@ -15,15 +16,20 @@ use opening::open::open;
 use refusals::Answer;
 use refusals::Refusal;
 
+pub mod array;
+
 // Writes sizes as numbers.
 fn write_sizes(s: Sizes, numbers: &mut [u32])
     requires { ⌜ SizesReady s (now numbers) ⌝ }
     ensures { λ _. ⌜ now (numbers .exit) ≡ written (s .rows ∷ s .columns ∷ s .arrays ∷ s .denominator ∷ []) (now (numbers .entry)) ⌝ }
 {
-    numbers[0] = s.rows as u32;
-    numbers[1] = s.columns as u32;
-    numbers[2] = s.arrays as u32;
-    numbers[3] = s.denominator;
+    write_four(
+        s.rows as u32,
+        s.columns as u32,
+        s.arrays as u32,
+        s.denominator,
+        numbers,
+    );
 }
 
 // Writes a plan's sizes (rows, columns, arrays, denominator), or returns the lowest refusal that applies.
@@ -66,4 +72,5 @@ pub fn cells(plan: &[u8], cells: &mut [u32]) -> Answer
 pub fn claims()
     ensures sizes { λ _. ⌜ map toldSizes sizeCases ≡ map said sizeCases ⌝ }
     ensures cells { λ _. ⌜ map toldCells cellCases ≡ map said cellCases ⌝ }
+    ensures arrays { λ _. ⌜ map toldArray arrayCases ≡ map saidArray arrayCases ⌝ }
 {}
