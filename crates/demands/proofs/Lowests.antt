@@ -11,7 +11,7 @@ use borrow.Author.Tests.{leb-true}
 use Rattle.base.specs.Lists.{all}
 use Rattle.base.proofs.Lists.{and-left, and-right, all-at-member}
 use Rattle.refusals.specs.Numbers.{numberOf}
-use Rattle.refusals.specs.Places.{placeOf}
+use Rattle.refusals.specs.Places.{placeOf, placeOnPlan}
 use Rattle.refusals.specs.declared.Refusal.{Refusal}
 use Rattle.refusals.specs.Due.{Test, refuse, due}
 use Rattle.refusals.proofs.Dues.{due-here, due-next, none-applies}
@@ -19,6 +19,8 @@ use Rattle.rounding.specs.Call.{roundRefusal}
 use Rattle.plan.specs.Call.{planRefusal}
 use Rattle.opening.specs.Open.{openRefusal, drawRefusal}
 use Rattle.parts.specs.Parts.{partRefusal}
+use Rattle.parts.specs.Array.{arrayRefusal}
+use Rattle.reasons.specs.Call.{replyRefusal}
 use Rattle.campaign.specs.Calls.{startRefusal, campaignRefusal}
 use Rattle.pool.specs.Pool.{poolRefusal}
 use Rattle.demands.specs.Refusals.{Lowest, Refuses, EachRefuses}
@@ -71,7 +73,7 @@ module _ (rank : Refusal → ℕ) where
   refuses l up = record { refused = lowest l up; accepted = none-applies l }
 
 pub each-refuses : EachRefuses
-unfolding rising all zipWith roundRefusal planRefusal openRefusal partRefusal drawRefusal startRefusal campaignRefusal poolRefusal
+unfolding rising all zipWith roundRefusal planRefusal openRefusal partRefusal drawRefusal startRefusal campaignRefusal poolRefusal replyRefusal arrayRefusal
 each-refuses = record {
   rounding = λ r c d g room. refuses numberOf _ refl;
   plan = λ r c d g room. refuses numberOf _ refl;
@@ -81,4 +83,6 @@ each-refuses = record {
   start = λ b s. refuses numberOf _ refl;
   campaign-draw = λ b d s room. refuses placeOf _ refl;
   pool = λ r c d g e h numbers room. refuses placeOf _ refl;
+  reason = λ r c d g k room. refuses placeOf _ refl;
+  array = λ b k one room. refuses placeOnPlan _ refl;
 }

@@ -5,13 +5,15 @@ use mathlib.Core.List.{List, List·Memᴰ as Member}
 use mathlib.Core.Option.{Option, some, none}
 use Prim.Native.Nat.{ℕ, _≤_}
 use Rattle.refusals.specs.Numbers.{numberOf}
-use Rattle.refusals.specs.Places.{placeOf}
+use Rattle.refusals.specs.Places.{placeOf, placeOnPlan}
 use Rattle.refusals.specs.declared.Refusal.{Refusal}
 use Rattle.refusals.specs.Due.{Test, refuse, noneApplies}
 use Rattle.rounding.specs.Call.{roundTests, roundRefusal}
 use Rattle.plan.specs.Call.{planTests, planRefusal}
 use Rattle.opening.specs.Open.{openTests, openRefusal, drawTests, drawRefusal}
 use Rattle.parts.specs.Parts.{partTests, partRefusal}
+use Rattle.parts.specs.Array.{arrayTests, arrayRefusal}
+use Rattle.reasons.specs.Call.{replyTests, replyRefusal}
 use Rattle.pool.specs.Pool.{poolTests, poolRefusal}
 use Rattle.records.specs.Record.{CampaignRecord}
 use Rattle.campaign.specs.Calls.{startTests, startRefusal, campaignTests, campaignRefusal}
@@ -35,7 +37,9 @@ pub record EachRefuses : Type 0 where
   pub parts : (b : List ℕ) (need room : ℕ) → Refuses numberOf (partTests b need room) (partRefusal b need room)
   pub draw : (b : List ℕ) (d room : ℕ) → Refuses numberOf (drawTests b d room) (drawRefusal b d room)
   pub start : (b : List ℕ) (s : CampaignRecord) → Refuses numberOf (startTests b s) (startRefusal b s)
-  -- a campaign draw and pooling have refusals that came later, so the lowest place: 13 before 10, and 11 and 12 before 7
+  -- the others have refusals that came later, so the lowest place: 13 before 10, and 11, 12 and 14 before 7
   pub campaign-draw : (b : List ℕ) (d : ℕ) (s : CampaignRecord) (room : ℕ) → Refuses placeOf (campaignTests b d s room) (campaignRefusal b d s room)
   pub pool : (r c d : ℕ) (g : List ℕ) (e : ℕ) (h : List ℕ) (numbers room : ℕ)
       → Refuses placeOf (poolTests r c d g e h numbers room) (poolRefusal r c d g e h numbers room)
+  pub reason : (r c d : ℕ) (g : List ℕ) (k room : ℕ) → Refuses placeOf (replyTests r c d g k room) (replyRefusal r c d g k room)
+  pub array : (b : List ℕ) (k one room : ℕ) → Refuses placeOnPlan (arrayTests b k one room) (arrayRefusal b k one room)

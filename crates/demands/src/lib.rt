@@ -5,7 +5,7 @@
 // refusal each call returns; that a refusal leaves every lent buffer as it was is in each call's contract (`after`).
 // Demand 2, that every plan is the specification's: `plans`; that the call writes just this plan is the contract of `plan::plan`. A stored plan opens just if it meets the stated conditions: `opens`.
 // Demand 3, on campaigns: `every_run`, for any plan that opens; and `serves`, for the plan of every accepted table.
-// Pooling, which came later: `pools`.
+// Pooling and the reasons of weights, which came later: `pools` and `reasons`.
 ghost use mathlib.Core.Path.{_≡_};
 ghost use mathlib.Core.Bool.{true};
 ghost use mathlib.Core.List.{List, map};
@@ -24,6 +24,8 @@ ghost use Rattle.rounds.specs.Rounds.{limitOf};
 ghost use Rattle.plan.specs.declared.Planned.{Planned};
 ghost use Rattle.plan.specs.Call.{planBytes, PlanAnswers};
 ghost use Rattle.plan.specs.Promises.{Promises};
+ghost use Rattle.reasons.specs.Call.{reasonRefusal};
+ghost use Rattle.reasons.specs.Explained.{Explained};
 ghost use Rattle.pool.specs.Pool.{poolingRefusal, poolRefusal, Lent, pooledInto};
 ghost use Rattle.demands.specs.Refusals.{EachRefuses};
 ghost use Rattle.demands.specs.Opening.{Conditions};
@@ -36,10 +38,12 @@ ghost use Rattle.demands.specs.Campaigns.{runs, saidOf};
 ghost use Rattle.demands.specs.Slips.{SlipsShut};
 
 pub fn claims()
-    // every call returns the lowest refusal that applies, and pooling the first in its order
+    // every call returns the lowest refusal that applies, and one with refusals that came later the first in its order
     ensures refusals { λ _. ⌜ EachRefuses ⌝ }
     // what the plan of every accepted table keeps
     ensures plans { λ _. ⌜ ((r c d : ℕ) (g : List ℕ) → tableRefusal r c d g ≡ none → Promises r c d g) ⌝ }
+    // which entry set the weight of each of its arrays
+    ensures reasons { λ _. ⌜ ((r c d : ℕ) (g : List ℕ) (k : ℕ) → reasonRefusal r c d g k ≡ none → Explained r c d g k) ⌝ }
     // what is known of bytes that open, and what is enough for it
     ensures opens { λ _. ⌜ ((b : List ℕ) → (Opens b → Conditions b) × (Conditions b → Opens b)) ⌝ }
     // every list of draws after a start, on any plan that opens

@@ -12,6 +12,8 @@ ghost use Rattle.form.specs.Plan.{cellCount};
 ghost use Rattle.form.specs.Form.{decode};
 ghost use Rattle.opening.specs.Open.{openAnswer, openedNumber, drawRefusal, drawnArray};
 ghost use Rattle.parts.specs.Parts.{sizeNumbers, partRefusal};
+ghost use Rattle.parts.specs.Array.{buffers, arrayRefusal, arrayInto};
+ghost use Rattle.reasons.specs.Call.{reasonAnswer, reasonNumbers, replyRefusal};
 ghost use Rattle.variances.specs.Covariance.{numerators};
 ghost use Rattle.pool.specs.Pool.{poolRefusal, lent, pooledInto};
 ghost use Rattle.records.specs.Record.{recordOf};
@@ -57,6 +59,24 @@ pub extern "C" fn lufodimi_plan(
 {
     let planned = plan::plan(rows, columns, denominator, cells, buffer);
     plan::planned_number(planned)
+}
+
+// Writes which entry set the weight of an array, from 1 on, of a table's plan, as four numbers: 0, or the refusal's number.
+#[no_mangle]
+pub extern "C" fn lufodimi_reason(
+    rows: u32,
+    columns: u32,
+    denominator: u32,
+    cells: &[u32],
+    array: u32,
+    reply: &mut [u32],
+) -> u32
+    ensures number { λ n. ⌜ n ≡ answerNumber (answerOf (replyRefusal rows columns denominator (now (cells .entry)) array (length (now (reply .entry))))) ⌝ }
+    ensures buffer { λ _. ⌜ now (reply .exit) ≡ after (replyRefusal rows columns denominator (now (cells .entry)) array (length (now (reply .entry))))
+        (written (reasonNumbers (reasonAnswer rows columns denominator (now (cells .entry)) array)) (now (reply .entry))) (now (reply .entry)) ⌝ }
+{
+    let explained = reasons::write_reason(rows, columns, denominator, cells, array, reply);
+    refusals::answer_number(explained)
 }
 
 // Writes the pool of two tables, the first over d and the second over e: 0, or the refusal's number.
@@ -122,6 +142,23 @@ pub extern "C" fn lufodimi_cells(plan: &[u8], cells: &mut [u32]) -> u32
 {
     let read = parts::cells(plan, cells);
     refusals::answer_number(read)
+}
+
+// Writes the weight and the counts of an array, from 1 on, of a plan: 0, or the refusal's number.
+#[no_mangle]
+pub extern "C" fn lufodimi_array(
+    plan: &[u8],
+    array: u32,
+    weight: &mut [u32],
+    counts: &mut [u16],
+) -> u32
+    ensures number { λ n. ⌜ n ≡ answerNumber (answerOf (arrayRefusal (now (plan .entry)) array (length (now (weight .entry))) (length (now (counts .entry))))) ⌝ }
+    ensures buffers { λ _. ⌜ buffers (now (weight .exit)) (now (counts .exit))
+        ≡ after (arrayRefusal (now (plan .entry)) array (length (now (weight .entry))) (length (now (counts .entry))))
+        (arrayInto (now (plan .entry)) array (buffers (now (weight .entry)) (now (counts .entry)))) (buffers (now (weight .entry)) (now (counts .entry))) ⌝ }
+{
+    let given = parts::array::array(plan, array, weight, counts);
+    refusals::answer_number(given)
 }
 
 // Writes the sum of all cell variances of a plan, the smallest and the largest covariance of two different cells, as numerators: 0, or the refusal's number.

@@ -1,6 +1,7 @@
 -- `demands::claims` states what the laws of this folder prove.
 use Rattle.table.proofs.Checks.{passed-all}
 use Rattle.plan.proofs.Planning.{promised}
+use Rattle.reasons.proofs.Explaining.{every-explained}
 use Rattle.demands.proofs.Lowests.{each-refuses}
 use Rattle.demands.proofs.Conditions.{opens-just}
 use Rattle.demands.proofs.Campaigns.{claim}
@@ -18,12 +19,15 @@ returns k = (
   (
     λ r c d g h. promised (passed-all r c d g h),
     (
-      opens-just,
+      every-explained,
       (
-        claim,
+        opens-just,
         (
-          served,
-          (served-pool, (few-entries, (whole-limit, (belonging, (examples-hold, (runs-hold, slips-shut)))))),
+          claim,
+          (
+            served,
+            (served-pool, (few-entries, (whole-limit, (belonging, (examples-hold, (runs-hold, slips-shut)))))),
+          ),
         ),
       ),
     ),
