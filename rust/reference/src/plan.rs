@@ -42,6 +42,13 @@ impl Plan {
         }
         panic!("draw number {number} is not below the sum of the weights")
     }
+
+    /// The array with this number, counted from 1.
+    pub fn array(&self, number: u32) -> Result<&Array, Refusal> {
+        let mut numbered = (1..).zip(&self.arrays);
+        let found = numbered.find(|&(other, _)| other == number);
+        found.map(|(_, array)| array).ok_or(Refusal::ArrayNumber)
+    }
 }
 
 /// The plan call: writes the plan of the table in form 1 and returns its length.
@@ -68,15 +75,11 @@ fn store(plan: &Plan, buffer: &mut [u8]) -> Result<u32, Refusal> {
 
 /// Ernst's algorithm, in multiples of 1 / denominator.
 pub fn plan_of(table: &Table) -> Plan {
-    let mut remaining_cells = table.cells.clone();
-    let mut remaining_weight = table.denominator;
+    let mut remaining = Remaining::of(table);
     let mut arrays = Vec::new();
-    while remaining_weight > 0 {
-        let array = next_array(table, remaining_weight, &remaining_cells);
-        for (cell, count) in remaining_cells.iter_mut().zip(&array.counts) {
-            *cell -= array.weight * count;
-        }
-        remaining_weight -= array.weight;
+    while remaining.weight > 0 {
+        let array = remaining.next_array();
+        remaining.lose(&array);
         arrays.push(array);
     }
     Plan {
@@ -85,17 +88,56 @@ pub fn plan_of(table: &Table) -> Plan {
     }
 }
 
-/// The first controlled rounding of what remains, weighted by its smallest limit.
-fn next_array(table: &Table, remaining_weight: u64, remaining_cells: &[u64]) -> Array {
-    let (rows, columns) = (table.rows, table.columns);
-    let counts = first_rounding(rows, columns, remaining_weight, remaining_cells);
-    let weight = entries(rows, columns, remaining_cells)
-        .iter()
-        .zip(&entries(rows, columns, &counts))
-        .map(|(&entry, &count)| limit(remaining_weight, entry, count))
-        .min()
-        .expect("a table has entries");
-    Array { weight, counts }
+/// What remains before a round: the weight, and the table over it.
+pub struct Remaining {
+    rows: usize,
+    columns: usize,
+    pub weight: u64,
+    cells: Vec<u64>,
+}
+
+impl Remaining {
+    /// All of a table.
+    pub fn of(table: &Table) -> Remaining {
+        Remaining {
+            rows: table.rows,
+            columns: table.columns,
+            weight: table.denominator,
+            cells: table.cells.clone(),
+        }
+    }
+
+    /// Takes a weighted array off.
+    pub fn lose(&mut self, array: &Array) {
+        for (cell, count) in self.cells.iter_mut().zip(&array.counts) {
+            *cell -= array.weight * count;
+        }
+        self.weight -= array.weight;
+    }
+
+    /// The entries of what remains.
+    pub fn entries(&self) -> Vec<u64> {
+        entries(self.rows, self.columns, &self.cells)
+    }
+
+    /// The first controlled rounding of what remains, weighted by its smallest limit.
+    fn next_array(&self) -> Array {
+        let counts = first_rounding(self.rows, self.columns, self.weight, &self.cells);
+        let weight = self.limits(&counts).into_iter().min();
+        Array {
+            weight: weight.expect("a table has entries"),
+            counts,
+        }
+    }
+
+    /// The limit of each entry under an array.
+    pub fn limits(&self, counts: &[u64]) -> Vec<u64> {
+        self.entries()
+            .iter()
+            .zip(&entries(self.rows, self.columns, counts))
+            .map(|(&entry, &count)| limit(self.weight, entry, count))
+            .collect()
+    }
 }
 
 /// How far the weight of an array may go before the entry passes a whole number.

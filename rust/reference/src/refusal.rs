@@ -27,6 +27,8 @@ pub enum Refusal {
     PooledCell = 12,
     /// A campaign whose 1,000 rounds are done.
     Rounds = 13,
+    /// An array number that the plan does not have.
+    ArrayNumber = 14,
 }
 
 impl Refusal {

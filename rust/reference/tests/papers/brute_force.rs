@@ -1,6 +1,6 @@
-//! Roundings and plans against a search through all arrays.
+//! Roundings, plans and the reasons of weights against a search through all arrays.
 
-use crate::samples::{accepted, planned_arrays, table};
+use crate::samples::{accepted, planned_arrays, reasons, table};
 use reference::{entries, first_rounding, Table};
 use tables::papers::WeightedArrays;
 use tables::{papers, Generator};
@@ -37,46 +37,93 @@ fn all_roundings(rows: usize, columns: usize, weight: u64, cells: &[u64]) -> Vec
         .collect()
 }
 
-/// The largest part of the weight that an array can take while every entry of the
-/// remaining table stays between its rounded values.
-fn largest_weight(entries: &[u64], weight: u64, counts: &[u64]) -> u64 {
-    let stays_between = |part: u64, entry: u64, count: u64| {
-        let left = weight - part;
-        let down = entry / weight;
-        let up = entry.div_ceil(weight);
-        down * left + part * count <= entry && entry <= up * left + part * count
-    };
-    let fits_all = |part: &u64| {
-        entries
-            .iter()
-            .zip(counts)
-            .all(|(&entry, &count)| stays_between(*part, entry, count))
-    };
-    (1..=weight).rev().find(fits_all).expect("1 fits")
+/// A round: the entries of the remaining table, the weight that they are over, and the
+/// entries of the array.
+struct Round {
+    entries: Vec<u64>,
+    weight: u64,
+    counts: Vec<u64>,
 }
 
-/// The plan by brute force: weights and counts.
-fn plan_by_brute_force(table: &Table) -> WeightedArrays {
+impl Round {
+    /// The first entry that does not stay between its rounded values if the array takes
+    /// this part of the weight.
+    fn first_beyond(&self, part: u64) -> Option<usize> {
+        let left = self.weight - part;
+        let stays_between = |entry: u64, count: u64| {
+            let down = entry / self.weight;
+            let up = entry.div_ceil(self.weight);
+            down * left + part * count <= entry && entry <= up * left + part * count
+        };
+        let mut places = 0..self.entries.len();
+        places.find(|&place| !stays_between(self.entries[place], self.counts[place]))
+    }
+
+    /// The largest part of the weight that the array can take while every entry stays
+    /// between its rounded values.
+    fn largest_weight(&self) -> u64 {
+        let fits_all = |part: &u64| self.first_beyond(*part).is_none();
+        (1..=self.weight).rev().find(fits_all).expect("1 fits")
+    }
+
+    /// What keeps the array from taking one more: the first entry that would not stay, and
+    /// whether its count is below it, 1, or above it, 2. If no weight is left to take, the
+    /// first entry and 0.
+    fn what_keeps(&self) -> (usize, u32) {
+        let part = self.largest_weight();
+        if part == self.weight {
+            return (0, 0);
+        }
+        let place = self.first_beyond(part + 1).expect("an entry keeps it");
+        let is_below = self.counts[place] * self.weight < self.entries[place];
+        (place, if is_below { 1 } else { 2 })
+    }
+}
+
+/// Kind, row and column of the entry at a place.
+fn name_of(rows: usize, columns: usize, place: usize) -> [u32; 3] {
+    let cells = rows * columns;
+    let name = if place < cells {
+        [1, place / columns + 1, place % columns + 1]
+    } else if place < cells + rows {
+        [2, place - cells + 1, 0]
+    } else if place < cells + rows + columns {
+        [3, 0, place - cells - rows + 1]
+    } else {
+        [4, 0, 0]
+    };
+    name.map(|number| number as u32)
+}
+
+/// The plan by brute force: weights and counts, and the reason of each weight.
+fn plan_by_brute_force(table: &Table) -> (WeightedArrays, Vec<[u32; 4]>) {
     let (rows, columns) = (table.rows, table.columns);
     let mut cells = table.cells.clone();
     let mut left = table.denominator;
-    let mut arrays = Vec::new();
+    let (mut arrays, mut reasons) = (Vec::new(), Vec::new());
     while left > 0 {
         let counts = all_roundings(rows, columns, left, &cells).remove(0);
-        let array_entries = entries(rows, columns, &counts);
-        let weight = largest_weight(&entries(rows, columns, &cells), left, &array_entries);
+        let round = Round {
+            entries: entries(rows, columns, &cells),
+            weight: left,
+            counts: entries(rows, columns, &counts),
+        };
+        let (place, direction) = round.what_keeps();
+        let [kind, row, column] = name_of(rows, columns, place);
+        reasons.push([kind, row, column, direction]);
+        let weight = round.largest_weight();
         for (cell, count) in cells.iter_mut().zip(&counts) {
             *cell -= weight * count;
         }
         left -= weight;
         arrays.push((weight, counts));
     }
-    arrays
+    (arrays, reasons)
 }
 
 fn assert_same_as_brute_force(table: &Table) {
-    let planned = planned_arrays(table);
-    assert_eq!(planned, plan_by_brute_force(table), "{table:?}");
+    let found = (planned_arrays(table), reasons(table));
+    assert_eq!(found, plan_by_brute_force(table), "{table:?}");
 }
 
 /// Calls the check for every table of this size with cells up to the largest.

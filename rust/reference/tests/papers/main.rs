@@ -6,6 +6,7 @@ mod brute_force;
 mod campaigns;
 mod examples;
 mod literal;
+mod reasons;
 mod refusals;
 mod samples;
 mod stored_plans;

@@ -1,6 +1,6 @@
 //! Tables and plans that several tests use.
 
-use reference::{encode, plan_of, Plan, Table};
+use reference::{encode, plan_of, write_reason, Plan, Table};
 use tables::papers::{self, Example, WeightedArrays};
 use tables::GivenTable;
 
@@ -36,4 +36,15 @@ pub fn planned_arrays(table: &Table) -> WeightedArrays {
         .into_iter()
         .map(|array| (array.weight, array.counts))
         .collect()
+}
+
+/// The replies for all arrays of a table's plan.
+pub fn reasons(table: &Table) -> Vec<[u32; 4]> {
+    let plan = plan_of(table);
+    let reply = |number: usize| {
+        let mut reply = [0; 4];
+        write_reason(&plan, number as u32, &mut reply).expect("the plan has the array");
+        reply
+    };
+    (1..=plan.arrays.len()).map(reply).collect()
 }

@@ -1,11 +1,26 @@
 //! Stored form 1 and the conditions of opening.
 
 use crate::samples::{accepted, listed_plan, stored_plan, table};
-use reference::{encode, open, plan_of, stored_length, Plan, Refusal, Table};
+use reference::{
+    array, encode, number_of, open, plan_of, stored_length, Array, Plan, Refusal, Table,
+};
 use tables::{random_table, Generator};
 
 fn answer(plan: &Plan) -> Option<Refusal> {
     open(&encode(plan)).err()
+}
+
+/// The number that the array call returns, and the buffers for weight and counts as it
+/// leaves them.
+fn told(bytes: &[u8], number: u32, rooms: [usize; 2]) -> (u32, Vec<u32>, Vec<u16>) {
+    let (mut weight, mut counts) = (vec![8; rooms[0]], vec![8; rooms[1]]);
+    let answer = array(bytes, number, &mut weight, &mut counts);
+    (number_of(answer), weight, counts)
+}
+
+/// The same for a call that is refused by a number and leaves both as they were.
+fn refused(by: u32, rooms: [usize; 2]) -> (u32, Vec<u32>, Vec<u16>) {
+    (by, vec![8; rooms[0]], vec![8; rooms[1]])
 }
 
 #[test]
@@ -131,4 +146,59 @@ fn no_order_is_demanded() {
     let mut plan = listed_plan();
     plan.arrays.reverse();
     assert_eq!(answer(&plan), None);
+}
+
+#[test]
+fn arrays_are_told_from_1_on_and_the_rest_of_the_buffers_stays() {
+    let bytes = encode(&listed_plan());
+    let arrays = [
+        (2, [0, 0, 0, 1]),
+        (1, [0, 0, 1, 1]),
+        (4, [0, 1, 1, 0]),
+        (3, [1, 0, 0, 1]),
+    ];
+    for (number, (weight, counts)) in (1..).zip(arrays) {
+        let just = (0, vec![weight], counts.to_vec());
+        assert_eq!(told(&bytes, number, [1, 4]), just);
+        let longer = (0, vec![weight, 8, 8], [&counts[..], &[8]].concat());
+        assert_eq!(told(&bytes, number, [3, 5]), longer);
+    }
+}
+
+#[test]
+fn told_arrays_are_those_of_the_plan() {
+    let mut generator = Generator::new(42);
+    for _ in 0..100 {
+        let mut plan = plan_of(&accepted(&random_table(&mut generator, 5)));
+        generator.shuffle(&mut plan.arrays);
+        let bytes = encode(&plan);
+        for (number, array) in (1..).zip(&plan.arrays) {
+            let (answer, weight, counts) = told(&bytes, number, [1, plan.table.size()]);
+            let found = Array {
+                weight: u64::from(weight[0]),
+                counts: counts.into_iter().map(u64::from).collect(),
+            };
+            assert_eq!((answer, &found), (0, array));
+        }
+    }
+}
+
+#[test]
+fn an_array_needs_a_plan_that_opens_then_its_number_then_room() {
+    let good = encode(&listed_plan());
+    let misplaced = [&good[..], &[0]].concat();
+    let mut unbalanced = good.clone();
+    unbalanced[48] ^= 1;
+    for rooms in [[1, 4], [0, 4], [1, 3], [0, 0]] {
+        for number in [0, 1, 5] {
+            assert_eq!(told(&misplaced, number, rooms), refused(5, rooms));
+            assert_eq!(told(&unbalanced, number, rooms), refused(6, rooms));
+        }
+        for number in [0, 5, 171, 1 << 31, u32::MAX] {
+            assert_eq!(told(&good, number, rooms), refused(14, rooms));
+        }
+    }
+    for rooms in [[0, 4], [1, 3], [0, 3], [0, 0]] {
+        assert_eq!(told(&good, 4, rooms), refused(7, rooms));
+    }
 }
