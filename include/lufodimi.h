@@ -6,7 +6,7 @@
  * evenly at random, in a campaign evenly among the numbers that are not taken yet in this round; the caller makes the random numbers.
  *
  * Every call checks what it is lent. It returns LUFODIMI_DONE, and lufodimi_plan the plan's length, or the number of the first refusal
- * that applies, in the order of their numbers, but 11 and 12 before 7, and 13 before 10. A refusal changes no buffer.
+ * that applies, in the order of their numbers, but 11, 12 and 14 before 7, and 13 before 10. A refusal changes no buffer.
  *
  * What a call is lent:
  * - A length counts elements, not bytes. A pointer is never null, not even with length 0, and is aligned for its elements.
@@ -51,6 +51,9 @@ extern "C" {
 /* How many numbers lufodimi_sizes writes. */
 #define LUFODIMI_SIZES 4
 
+/* How many numbers lufodimi_reason writes. */
+#define LUFODIMI_REASON 4
+
 /* How many numbers lufodimi_variances writes. */
 #define LUFODIMI_VARIANCES 3
 
@@ -69,7 +72,23 @@ enum lufodimi_answer {
     LUFODIMI_TAKEN = 10,       /* the number is taken in this round */
     LUFODIMI_MULTIPLE = 11,    /* the least common multiple of the two denominators is above 65,535 */
     LUFODIMI_POOLED_CELL = 12, /* a pooled cell is above 1000 times the multiple */
-    LUFODIMI_ROUNDS = 13       /* the 1,000 rounds of the campaign are done */
+    LUFODIMI_ROUNDS = 13,      /* the 1,000 rounds of the campaign are done */
+    LUFODIMI_ARRAY = 14        /* the plan has no array of that number */
+};
+
+/* The kind of an entry, the first number that lufodimi_reason writes. */
+enum lufodimi_entry {
+    LUFODIMI_CELL = 1,
+    LUFODIMI_ROW_TOTAL = 2,
+    LUFODIMI_COLUMN_TOTAL = 3,
+    LUFODIMI_GRAND_TOTAL = 4
+};
+
+/* How an entry was rounded, the last number that lufodimi_reason writes. */
+enum lufodimi_direction {
+    LUFODIMI_ALL_WHOLE = 0, /* this entry and all others are whole */
+    LUFODIMI_DOWN = 1,
+    LUFODIMI_UP = 2
 };
 
 /* The part of a campaign record that is no buffer: how many numbers are taken in this round, and how many rounds are completed. */
@@ -97,6 +116,15 @@ uint32_t lufodimi_plan(uint32_t rows, uint32_t columns, uint32_t denominator,
                        const uint32_t *cells, size_t cells_length,
                        uint8_t *plan, size_t plan_length);
 
+/* Tells which entry set the weight of an array of a table's plan; arrays are counted from 1. When planning comes to an array, each entry of
+ * what is left, cell or total, bears some weight of it before it leaves its bounds, its limit, and the smallest limit is the weight. Writes
+ * LUFODIMI_REASON numbers about the first entry whose limit is the weight, cells in row order first, then row totals, column totals and the
+ * grand total: its kind, its row and its column from 1, 0 where the kind has none, and its direction. For the last array, and for no other,
+ * all entries are whole: LUFODIMI_CELL, 1, 1, LUFODIMI_ALL_WHOLE. Refusals 1, 2, 3, 4, 14, 7, in this order. */
+uint32_t lufodimi_reason(uint32_t rows, uint32_t columns, uint32_t denominator,
+                         const uint32_t *cells, size_t cells_length, uint32_t array,
+                         uint32_t *reply, size_t reply_length);
+
 /* Opens a stored plan, whoever made it; its length is just the plan's. It opens if each array's cells, row totals, column totals and grand
  * total are the table's over the denominator, rounded down or up, the weights add up to the denominator, and the weighted arrays to the
  * table. It writes nothing. Refusals 5, 6. */
@@ -107,6 +135,11 @@ uint32_t lufodimi_sizes(const uint8_t *plan, size_t plan_length, uint32_t *sizes
 
 /* Writes the cells of a plan's table: rows times columns numbers, in row order. Refusals 5, 6, 7. */
 uint32_t lufodimi_cells(const uint8_t *plan, size_t plan_length, uint32_t *cells, size_t cells_length);
+
+/* Writes one of a plan's arrays, which are counted from 1: its weight, one number, and rows times columns counts, in row order. Refusals 5,
+ * 6, 14, 7, in this order. */
+uint32_t lufodimi_array(const uint8_t *plan, size_t plan_length, uint32_t array,
+                        uint32_t *weight, size_t weight_length, uint16_t *counts, size_t counts_length);
 
 /* Writes the array that belongs to a draw number: rows times columns counts, in row order. Refusals 5, 6, 7, 8. */
 uint32_t lufodimi_draw(const uint8_t *plan, size_t plan_length, uint32_t number,
