@@ -3,7 +3,7 @@
 //! The functions named `lufodimi_` are the C calls as `include/lufodimi.h` declares them.
 //! Beside each stands a safe function that lends slices with their lengths and hands on
 //! what the call returns: 0, and of planning the plan's length, or the number of the first
-//! refusal that applies, in the order of their numbers, but 11 and 12 before 7, and 13
+//! refusal that applies, in the order of their numbers, but 11, 12 and 14 before 7, and 13
 //! before 10. A refusal changes no buffer. The crate `lufodimi` makes types of all this.
 //!
 //! Build the library once with `rt staticlib exports` in the repository. The variable
@@ -37,14 +37,19 @@ mod open;
 mod parts;
 mod plan;
 mod pool;
+mod reason;
 mod round;
 mod variances;
 
 pub use campaign::{campaign_draw, lufodimi_campaign_draw, lufodimi_record, lufodimi_start, start};
 pub use draw::{draw, lufodimi_draw};
 pub use open::{lufodimi_open, open};
-pub use parts::{cells, lufodimi_cells, lufodimi_sizes, sizes};
+pub use parts::{array, cells, lufodimi_array, lufodimi_cells, lufodimi_sizes, sizes};
 pub use plan::{lufodimi_plan, plan, LUFODIMI_LONGEST_PLAN};
 pub use pool::{lufodimi_pool, pool};
+pub use reason::{
+    lufodimi_reason, reason, LUFODIMI_ALL_WHOLE, LUFODIMI_CELL, LUFODIMI_COLUMN_TOTAL,
+    LUFODIMI_DOWN, LUFODIMI_GRAND_TOTAL, LUFODIMI_ROW_TOTAL, LUFODIMI_UP,
+};
 pub use round::{lufodimi_round, round};
 pub use variances::{lufodimi_variances, variances};

@@ -23,6 +23,22 @@ extern "C" {
         cells: *mut u32,
         cells_length: usize,
     ) -> u32;
+
+    /// Writes the weight of an array of a stored plan, one number, and its counts, in row
+    /// order. Arrays are counted from 1. Refusals 5, 6, 14, 7, tested in this order.
+    ///
+    /// # Safety
+    ///
+    /// As the crate says.
+    pub fn lufodimi_array(
+        plan: *const u8,
+        plan_length: usize,
+        array: u32,
+        weight: *mut u32,
+        weight_length: usize,
+        counts: *mut u16,
+        counts_length: usize,
+    ) -> u32;
 }
 
 /// Writes rows, columns, arrays and denominator of a plan. Returns 0 or the refusal.
@@ -51,4 +67,30 @@ pub fn sizes(plan: &[u8], sizes: &mut [u32]) -> u32 {
 pub fn cells(plan: &[u8], cells: &mut [u32]) -> u32 {
     // SAFETY: every pointer comes with the length of its slice.
     unsafe { lufodimi_cells(plan.as_ptr(), plan.len(), cells.as_mut_ptr(), cells.len()) }
+}
+
+/// Writes weight and counts of an array of a plan, counted from 1. Returns 0 or the
+/// refusal.
+///
+/// ```
+/// let mut plan = [0; 40];
+/// assert_eq!(lufodimi_sys::plan(1, 1, 3, &[2], &mut plan), 40);
+/// let (mut weight, mut counts) = ([0], [0]);
+/// assert_eq!(lufodimi_sys::array(&plan, 2, &mut weight, &mut counts), 0);
+/// assert_eq!((weight, counts), ([2], [1]));
+/// assert_eq!(lufodimi_sys::array(&plan, 3, &mut weight, &mut counts), 14);
+/// ```
+pub fn array(plan: &[u8], array: u32, weight: &mut [u32], counts: &mut [u16]) -> u32 {
+    // SAFETY: every pointer comes with the length of its slice.
+    unsafe {
+        lufodimi_array(
+            plan.as_ptr(),
+            plan.len(),
+            array,
+            weight.as_mut_ptr(),
+            weight.len(),
+            counts.as_mut_ptr(),
+            counts.len(),
+        )
+    }
 }

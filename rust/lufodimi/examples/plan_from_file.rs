@@ -3,8 +3,7 @@
 //! `plan_from_file FILE` reads a stored plan, whoever made it. Without a file it stores
 //! the plan of a small table first, and reads that.
 
-use lufodimi::{Plan, Refusal, Table};
-use std::collections::BTreeMap;
+use lufodimi::{Plan, Table};
 use std::error::Error;
 use std::fs;
 use std::path::Path;
@@ -42,24 +41,16 @@ fn described(file: &Path) -> Result<String, Box<dyn Error>> {
     for row in plan.cells().chunks(plan.columns() as usize) {
         text += &format!("expected: {row:?} over {}\n", plan.denominator());
     }
-    for (counts, numbers) in numbers_by_array(&plan)? {
-        text += &format!("{counts:?} by {numbers} numbers\n");
+    for array in plan.arrays() {
+        text += &format!("{:?} by {} numbers\n", array.counts, array.weight);
     }
     Ok(text)
-}
-
-/// The different arrays, with how many draw numbers belong to each.
-fn numbers_by_array(plan: &Plan) -> Result<BTreeMap<Vec<u16>, u32>, Refusal> {
-    let mut numbers = BTreeMap::new();
-    for number in 0..plan.denominator() {
-        *numbers.entry(plan.draw(number)?).or_default() += 1;
-    }
-    Ok(numbers)
 }
 
 #[cfg(test)]
 mod tests {
     use super::*;
+    use lufodimi::Refusal;
 
     #[test]
     fn the_sample_is_described() {

@@ -33,8 +33,10 @@ fn overall(plan: &Plan) -> String {
 /// The cells of a zone, each two of them, and the zone's total.
 fn zone(plan: &Plan, zone: usize) -> String {
     let first = zone * KINDS.len();
+    let covariances = plan.covariances();
     let numerator = |a: usize, b: usize| {
-        plan.covariance(first + a, first + b)
+        covariances
+            .of(first + a, first + b)
             .expect("the zone has a cell of each kind")
     };
     let mut text = format!("{} zone:\n", ZONES[zone]);

@@ -5,15 +5,21 @@
 
 extern crate alloc;
 
+mod array;
 mod campaign;
+mod covariances;
 mod plan;
+mod reason;
 mod record;
 mod refusal;
 mod table;
 mod variances;
 
+pub use array::{Array, Arrays};
 pub use campaign::{Campaign, Remaining};
+pub use covariances::Covariances;
 pub use plan::Plan;
+pub use reason::{Entry, Reason};
 pub use record::{Record, RecordError};
 pub use refusal::Refusal;
 pub use table::Table;

@@ -1,5 +1,5 @@
 use crate::refusal::accepted;
-use crate::{Refusal, Table, Variances};
+use crate::{Array, Arrays, Covariances, Refusal, Table, Variances};
 use alloc::vec;
 use alloc::vec::Vec;
 use lufodimi_sys::LUFODIMI_LONGEST_PLAN;
@@ -22,7 +22,7 @@ use lufodimi_sys::LUFODIMI_LONGEST_PLAN;
 pub struct Plan {
     bytes: Vec<u8>,
     table: Table,
-    arrays: u32,
+    array_count: u32,
 }
 
 /// The least length of a stored plan; where planning returns less, it is a refusal.
@@ -87,13 +87,13 @@ impl Plan {
         let bytes = bytes.into();
         let mut sizes = [0; 4];
         accepted(lufodimi_sys::sizes(&bytes, &mut sizes))?;
-        let [rows, columns, arrays, denominator] = sizes;
+        let [rows, columns, array_count, denominator] = sizes;
         let mut cells = vec![0; (rows * columns) as usize];
         accepted(lufodimi_sys::cells(&bytes, &mut cells))?;
         Ok(Plan {
             bytes,
             table: Table::opened(rows, columns, denominator, cells),
-            arrays,
+            array_count,
         })
     }
 
@@ -182,7 +182,51 @@ impl Plan {
     /// # Ok::<(), lufodimi::Refusal>(())
     /// ```
     pub fn array_count(&self) -> u32 {
-        self.arrays
+        self.array_count
+    }
+
+    /// An array with its weight. Arrays are counted from 1, as [`Table::reason`] counts them.
+    ///
+    /// ```
+    /// use lufodimi::{Plan, Refusal, Table};
+    ///
+    /// let plan = Plan::of(&Table::new(2, 2, 10, [3, 4, 5, 6])?);
+    /// let second = plan.array(2)?;
+    /// assert_eq!((second.weight, second.counts), (1, vec![0, 0, 1, 1]));
+    /// assert_eq!(plan.array(5), Err(Refusal::Array));
+    /// # Ok::<(), Refusal>(())
+    /// ```
+    ///
+    /// # Errors
+    ///
+    /// [`Refusal::Array`] if the number is 0 or above the number of arrays.
+    pub fn array(&self, number: u32) -> Result<Array, Refusal> {
+        let (mut weight, mut counts) = ([0], vec![0; self.cells().len()]);
+        accepted(lufodimi_sys::array(
+            &self.bytes,
+            number,
+            &mut weight,
+            &mut counts,
+        ))?;
+        let [weight] = weight;
+        Ok(Array { weight, counts })
+    }
+
+    /// The arrays with their weights, in order: the lowest draw numbers belong to the first.
+    ///
+    /// Each is read from the stored plan, which is checked anew, when the iterator comes to
+    /// it. Where they are gone through more than once, `collect` them first.
+    ///
+    /// ```
+    /// use lufodimi::{Plan, Table};
+    ///
+    /// let plan = Plan::of(&Table::new(2, 2, 10, [3, 4, 5, 6])?);
+    /// let weights: Vec<u32> = plan.arrays().map(|array| array.weight).collect();
+    /// assert_eq!(weights, [2, 1, 4, 3]);
+    /// # Ok::<(), lufodimi::Refusal>(())
+    /// ```
+    pub fn arrays(&self) -> Arrays<'_> {
+        Arrays::of(self)
     }
 
     /// The array that belongs to a draw number, counts in row order. Chances are those of
@@ -232,50 +276,17 @@ impl Plan {
         }
     }
 
-    /// The covariance of two cells, given by their places in row order from 0, as a
-    /// numerator over the squared denominator: the denominator times the weighted sum of
-    /// the products of their counts, minus the product of their table cells. It is negative
-    /// if one tends to replace the other. Of a cell with itself it is the variance. There is
-    /// none if there is no such cell.
+    /// The covariances of the plan's cells, each two of them.
     ///
     /// ```
     /// use lufodimi::{Plan, Table};
     ///
     /// let plan = Plan::of(&Table::new(2, 2, 10, [3, 4, 5, 6])?);
-    /// assert_eq!(plan.covariance(1, 2), Some(20));
-    /// assert_eq!(plan.covariance(1, 3), Some(-24));
-    /// assert_eq!(plan.covariance(1, 1), Some(24)); // 4 times 10 - 4
-    /// assert_eq!(plan.covariance(1, 4), None);
+    /// assert_eq!(plan.covariances().of(1, 3), Some(-24));
     /// # Ok::<(), lufodimi::Refusal>(())
     /// ```
-    pub fn covariance(&self, a: usize, b: usize) -> Option<i64> {
-        let cell = |place: usize| self.cells().get(place).copied().map(i64::from);
-        let of_table = cell(a)? * cell(b)?;
-        let sum: i64 = (0..self.arrays as usize)
-            .map(|array| self.weight(array) * self.count(array, a) * self.count(array, b))
-            .sum();
-        Some(i64::from(self.denominator()) * sum - of_table)
-    }
-
-    /// The weight of an array, counted from 0.
-    fn weight(&self, array: usize) -> i64 {
-        self.stored::<4>(16 + 8 * array)
-    }
-
-    /// The count of a cell in an array, both counted from 0. The array's counts stand where
-    /// the number after its weight points.
-    fn count(&self, array: usize, cell: usize) -> i64 {
-        let begin = self.stored::<4>(20 + 8 * array) as usize;
-        self.stored::<2>(begin + 2 * cell)
-    }
-
-    /// The number of so many bytes at this place of the stored plan, low byte first. The
-    /// plan opened, so that each number is where its form says.
-    fn stored<const WIDTH: usize>(&self, place: usize) -> i64 {
-        self.bytes[place..][..WIDTH]
-            .iter()
-            .rev()
-            .fold(0, |number, &byte| number << 8 | i64::from(byte))
+    pub fn covariances(&self) -> Covariances<'_> {
+        Covariances::read(self)
     }
 }
 

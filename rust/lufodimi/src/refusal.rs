@@ -2,7 +2,8 @@ use core::error::Error;
 use core::fmt::{self, Debug, Display, Formatter};
 
 /// Why something was refused. A refusal changes nothing; of several that apply, the first
-/// is returned, in the order of their numbers, but 11 and 12 before 7, and 13 before 10.
+/// is returned, in the order of their numbers, but 11, 12 and 14 before 7, and 13 before
+/// 10.
 ///
 /// It displays as a sentence without its end, and `Debug`, which the `?` of `main`
 /// prints, adds the number.
@@ -47,10 +48,12 @@ pub enum Refusal {
     PooledCell = 12,
     /// A campaign whose [`ROUNDS`](crate::Campaign::ROUNDS) are done.
     Rounds = 13,
+    /// An array number that the plan does not have: 0, or above the number of arrays.
+    Array = 14,
 }
 
 /// The refusals in the order of their numbers.
-const REFUSALS: [Refusal; 13] = [
+const REFUSALS: [Refusal; 14] = [
     Refusal::Size,
     Refusal::Denominator,
     Refusal::CellCount,
@@ -64,6 +67,7 @@ const REFUSALS: [Refusal; 13] = [
     Refusal::Multiple,
     Refusal::PooledCell,
     Refusal::Rounds,
+    Refusal::Array,
 ];
 
 impl Refusal {
@@ -110,6 +114,7 @@ impl Display for Refusal {
             }
             Refusal::PooledCell => "a pooled cell is above 1000 times the multiple",
             Refusal::Rounds => "the 1,000 rounds of the campaign are done",
+            Refusal::Array => "the plan has no array of that number",
         })
     }
 }
@@ -130,7 +135,7 @@ mod tests {
 
     #[test]
     fn every_number_has_its_refusal_and_a_sentence() {
-        for number in 1..=13 {
+        for number in 1..=14 {
             let refusal = Refusal::of(number);
             assert_eq!(refusal.number(), number);
             let sentence = refusal.to_string();

@@ -1,5 +1,5 @@
 use crate::refusal::accepted;
-use crate::Refusal;
+use crate::{Reason, Refusal};
 use alloc::vec;
 use alloc::vec::Vec;
 
@@ -195,6 +195,38 @@ impl Table {
             cells,
             ..*self
         })
+    }
+
+    /// Why an array of the table's plan, counted from 1, has the weight that it has: the
+    /// first entry that bears no more weight of the array.
+    ///
+    /// ```
+    /// use lufodimi::{Refusal, Table};
+    ///
+    /// let table = Table::new(2, 2, 10, [3, 4, 5, 6])?;
+    /// let reason = table.reason(1)?;
+    /// assert_eq!(reason.to_string(), "the total of column 1, rounded down");
+    /// assert_eq!(table.reason(5), Err(Refusal::Array));
+    /// # Ok::<(), Refusal>(())
+    /// ```
+    ///
+    /// The plan is that of [`Plan::of`](crate::Plan::of): somebody else's plan of the same
+    /// table may have other arrays, of which this tells nothing.
+    ///
+    /// # Errors
+    ///
+    /// [`Refusal::Array`] if the number is 0 or above the number of arrays.
+    pub fn reason(&self, array: u32) -> Result<Reason, Refusal> {
+        let mut reply = [0; 4];
+        accepted(lufodimi_sys::reason(
+            self.rows,
+            self.columns,
+            self.denominator,
+            &self.cells,
+            array,
+            &mut reply,
+        ))?;
+        Ok(Reason::of(reply))
     }
 
     /// Writes the first controlled rounding.

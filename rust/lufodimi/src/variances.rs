@@ -1,7 +1,7 @@
 /// How much the cells of a plan vary, exactly: numerators over the squared denominator.
 ///
 /// [`Plan::variances`](crate::Plan::variances) gives them, and
-/// [`Plan::covariance`](crate::Plan::covariance) the covariance of two cells.
+/// [`Plan::covariances`](crate::Plan::covariances) the covariance of any two cells.
 ///
 /// ```
 /// use lufodimi::{Plan, Table, Variances};

@@ -1,6 +1,6 @@
 //! Variances and covariances of a plan's cells.
 
-use lufodimi::{Plan, Table, Variances};
+use lufodimi::{Covariances, Plan, Table, Variances};
 
 /// The plan of a table that must be accepted.
 fn plan(rows: u32, columns: u32, denominator: u32, cells: &[u32]) -> Plan {
@@ -22,8 +22,8 @@ fn numerators(plan: &Plan) -> [i64; 3] {
 }
 
 /// The covariance of two cells that are there.
-fn covariance(plan: &Plan, a: usize, b: usize) -> i64 {
-    plan.covariance(a, b).expect("there are such cells")
+fn covariance(covariances: &Covariances, a: usize, b: usize) -> i64 {
+    covariances.of(a, b).expect("there are such cells")
 }
 
 #[test]
@@ -35,9 +35,10 @@ fn the_listing_by_hand() {
         [12, -24, -20, 24],
     ];
     let plan = listing();
+    let covariances = plan.covariances();
     for (a, row) in by_hand.iter().enumerate() {
         for (b, &number) in row.iter().enumerate() {
-            assert_eq!(plan.covariance(a, b), Some(number), "cells {a} and {b}");
+            assert_eq!(covariances.of(a, b), Some(number), "cells {a} and {b}");
         }
     }
     assert_eq!(numerators(&plan), [94, -24, 20]);
@@ -47,7 +48,7 @@ fn the_listing_by_hand() {
 fn one_cell_has_a_variance_and_no_covariance() {
     let plan = plan(1, 1, 3, &[2]);
     assert_eq!(numerators(&plan), [2, 0, 0]);
-    assert_eq!(plan.covariance(0, 0), Some(2));
+    assert_eq!(plan.covariances().of(0, 0), Some(2));
 }
 
 #[test]
@@ -59,9 +60,10 @@ fn the_largest_covariance_may_be_negative() {
 #[test]
 fn there_is_no_covariance_where_there_is_no_cell() {
     let plan = listing();
-    assert_eq!(plan.covariance(4, 0), None);
-    assert_eq!(plan.covariance(0, 4), None);
-    assert_eq!(plan.covariance(usize::MAX, usize::MAX), None);
+    let covariances = plan.covariances();
+    assert_eq!(covariances.of(4, 0), None);
+    assert_eq!(covariances.of(0, 4), None);
+    assert_eq!(covariances.of(usize::MAX, usize::MAX), None);
 }
 
 /// A plan of somebody else: cells 1 1, 1 0 over 2, arrays 1 0, 0 0 and 0 1, 1 0.
@@ -80,9 +82,10 @@ const VARYING: [u8; 64] = [
 fn a_foreign_plan() {
     let plan = Plan::open(VARYING).expect("it opens");
     assert_eq!(numerators(&plan), [3, -1, 1]);
-    assert_eq!(plan.covariance(0, 1), Some(-1));
-    assert_eq!(plan.covariance(1, 2), Some(1));
-    assert_eq!(plan.covariance(3, 0), Some(0));
+    let covariances = plan.covariances();
+    assert_eq!(covariances.of(0, 1), Some(-1));
+    assert_eq!(covariances.of(1, 2), Some(1));
+    assert_eq!(covariances.of(3, 0), Some(0));
 }
 
 /// f·(D − f), where f is the remainder of an entry by D.
@@ -96,26 +99,27 @@ fn by_remainder(entry: u32, denominator: u32) -> i64 {
 fn assert_agreeing(plan: &Plan) {
     let (columns, size) = (plan.columns() as usize, plan.cells().len());
     let denominator = plan.denominator();
+    let covariances = &plan.covariances();
     let of_cells = plan
         .cells()
         .iter()
         .map(|&cell| by_remainder(cell, denominator));
     for (cell, variance) in of_cells.clone().enumerate() {
-        assert_eq!(covariance(plan, cell, cell), variance, "cell {cell}");
+        assert_eq!(covariance(covariances, cell, cell), variance, "cell {cell}");
     }
     for (row, cells) in plan.cells().chunks(columns).enumerate() {
         let places = row * columns..(row + 1) * columns;
         let pairs = places
             .clone()
             .flat_map(|a| places.clone().map(move |b| (a, b)));
-        let sum: i64 = pairs.map(|(a, b)| covariance(plan, a, b)).sum();
+        let sum: i64 = pairs.map(|(a, b)| covariance(covariances, a, b)).sum();
         assert_eq!(
             sum,
             by_remainder(cells.iter().sum(), denominator),
             "row {row}"
         );
     }
-    let different = (0..size).flat_map(|a| (0..a).map(move |b| covariance(plan, a, b)));
+    let different = (0..size).flat_map(|a| (0..a).map(move |b| covariance(covariances, a, b)));
     let smallest = different.clone().min().unwrap_or(0);
     let largest = different.max().unwrap_or(0);
     assert_eq!(numerators(plan), [of_cells.sum(), smallest, largest]);
