@@ -1,4 +1,4 @@
-"""Controlled selection over the proved library: tables, plans, draws, campaigns and variances.
+"""Controlled selection over the proved library: tables, plans, the reasons of their weights, draws, campaigns and variances.
 
     stored = lufodimi.plan(2, 2, 10, [3, 4, 5, 6])      # rows, columns, denominator, cells in row order; bytes to keep
     campaign = lufodimi.Campaign(lufodimi.Plan(stored))
@@ -27,6 +27,8 @@ from typing import Iterable, NamedTuple
 LONGEST_PLAN, SHORTEST_PLAN, MOST_CELLS, MOST_ROUNDS = 50_912, 30, 144, 1_000
 # A stored record: LUFR, the form, the rounds, how many numbers are taken, how many bytes of bits and sums of the tally follow. Form 1 has no rounds, but zero.
 _HEAD, _SUMS = struct.Struct("<4sHHIII"), {1: "I", 2: "Q"}
+# What the library's numbers for an entry's kind and for how it is rounded stand for.
+_KINDS, _ROUNDED = {1: "cell", 2: "row total", 3: "column total", 4: "grand total"}, {0: "all whole", 1: "down", 2: "up"}
 SENTENCES = {
     1: "The table has not from 1 to 12 rows and from 1 to 12 columns.",
     2: "The denominator is not from 1 to 65,535.",
@@ -41,11 +43,12 @@ SENTENCES = {
     11: "The least common multiple of the two denominators is above 65,535.",
     12: "A pooled cell is above 1000 times the multiple.",
     13: "The 1,000 rounds of the campaign are done.",
+    14: "The plan has no array of that number.",
 }
 
 
 class Refusal(Exception):
-    """Why a call turned its input back: its `number`, from 1 to 13 (7 cannot occur here), and as text its sentence."""
+    """Why a call turned its input back: its `number`, from 1 to 14 (7 cannot occur here), and as text its sentence."""
 
     def __init__(self, number: int):
         super().__init__(SENTENCES[number])
@@ -72,8 +75,10 @@ _table, _record = [c_uint32] * 3 + _words, [POINTER(_Record), POINTER(c_uint8), 
 _library.lufodimi_round.argtypes = _table + _counts
 _library.lufodimi_pool.argtypes = _table + [c_uint32] + _words * 3
 _library.lufodimi_plan.argtypes = _table + _plan
+_library.lufodimi_reason.argtypes = _table + [c_uint32] + _words
 _library.lufodimi_sizes.argtypes = _plan + _words
 _library.lufodimi_cells.argtypes = _plan + _words
+_library.lufodimi_array.argtypes = _plan + [c_uint32] + _words + _counts
 _library.lufodimi_draw.argtypes = _plan + [c_uint32] + _counts
 _library.lufodimi_variances.argtypes = _plan + [POINTER(c_int64), c_size_t]
 _library.lufodimi_start.argtypes = _plan + _record
@@ -124,6 +129,43 @@ def plan(rows: int, columns: int, denominator: int, cells: Iterable[int]) -> byt
     return stored.raw[:length]
 
 
+class Reason(NamedTuple):
+    """Why an array has the weight that it has: the first entry that bears no more weight of it. Its `kind` is "cell", "row total", "column total" or "grand
+    total"; `row` and `column` count from 1, and are None where the kind has none; `rounded` is "down" or "up", or "all whole" for the last array, whose entry
+    is the first cell. As text it is a sentence without its end."""
+
+    kind: str
+    row: int | None
+    column: int | None
+    rounded: str
+
+    def __str__(self) -> str:
+        if self.rounded == "all whole":
+            return "all entries are whole"
+        entry = {
+            "cell": f"the cell in row {self.row} and column {self.column}",
+            "row total": f"the total of row {self.row}",
+            "column total": f"the total of column {self.column}",
+            "grand total": "the grand total",
+        }[self.kind]
+        return f"{entry}, rounded {self.rounded}"
+
+
+def reason(rows: int, columns: int, denominator: int, cells: Iterable[int], array: int) -> Reason:
+    """Which entry set the weight of an array of the table's plan, counted from 1. Refusals 1, 2, 3, 4, 14."""
+    reply = (c_uint32 * 4)()
+    _call("reason", *_lent_table(rows, columns, denominator, cells), _word(array), reply, 4)
+    kind, row, column, direction = reply
+    return Reason(_KINDS[kind], row or None, column or None, _ROUNDED[direction])
+
+
+class Array(NamedTuple):
+    """An array of a plan: how many draw numbers belong to it, and its counts in row order."""
+
+    weight: int
+    counts: list[int]
+
+
 class Variances(NamedTuple):
     """How much the cells of a plan vary, exactly: the sum of all cell variances, and the smallest and the largest covariance of two different cells (0 and 0
     if there is one cell), as numerators over the squared denominator. A covariance is negative if one cell tends to replace the other."""
@@ -134,14 +176,14 @@ class Variances(NamedTuple):
 
 
 class Plan:
-    """An opened plan, whoever made it: its bytes `stored`, and its `rows`, `columns`, `arrays` (how many), `denominator` and `cells`. Refusals 5 and 6: it opens
-    if each array keeps every cell, row, column and the whole at its expectation rounded down or up, and weights and weighted arrays add up."""
+    """An opened plan, whoever made it: its bytes `stored`, and its `rows`, `columns`, `array_count`, `denominator` and `cells`. Refusals 5 and 6: it opens if
+    each array keeps every cell, row, column and the whole at its expectation rounded down or up, and weights and weighted arrays add up."""
 
     def __init__(self, stored: bytes):
         self.stored = memoryview(stored).tobytes()
         sizes = (c_uint32 * 4)()
         _call("sizes", self.stored, len(self.stored), sizes, 4)
-        self.rows, self.columns, self.arrays, self.denominator = sizes
+        self.rows, self.columns, self.array_count, self.denominator = sizes
         cells = (c_uint32 * (self.rows * self.columns))()
         _call("cells", self.stored, len(self.stored), cells, len(cells))
         self._cells = tuple(cells)
@@ -150,6 +192,16 @@ class Plan:
     def cells(self) -> list[int]:
         """The table's cells, in row order."""
         return list(self._cells)
+
+    def arrays(self) -> list[Array]:
+        """The arrays with their weights, in order."""
+        return [self.array(number) for number in range(1, self.array_count + 1)]
+
+    def array(self, number: int) -> Array:
+        """An array with its weight, counted from 1 as `reason` counts. Refusal 14."""
+        weight, counts = (c_uint32 * 1)(), (c_uint16 * len(self._cells))()
+        _call("array", self.stored, len(self.stored), _word(number), weight, 1, counts, len(counts))
+        return Array(weight[0], list(counts))
 
     def draw(self, number: int) -> list[int]:
         """The array that belongs to a draw number, from 0 to the denominator minus 1. Refusal 8."""

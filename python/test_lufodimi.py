@@ -15,6 +15,8 @@ ARRAYS = [[0, 0, 0, 1]] * 2 + [[0, 0, 1, 1]] + [[0, 1, 1, 0]] * 4 + [[1, 0, 0, 1
 STANDING = [45, 23, 0, 12, 31, 26, 4, 19, 0, 14, 52, 14]
 LIST = [0, 0, 0, 0, 0, 0, 0, 3, 0, 2, 0, 0]
 POOLED = [90, 46, 0, 24, 62, 52, 8, 53, 0, 38, 104, 28]
+# Two rows and three columns over 10, in whose plan every kind of entry sets a weight.
+EVERY_KIND = [22, 1, 0, 14, 16, 6]
 
 
 def campaign(record=None):
@@ -42,7 +44,7 @@ class Tests(unittest.TestCase):
 
     def test_pooled_plan(self):
         plan = lufodimi.Plan(lufodimi.plan(3, 4, *lufodimi.pool(3, 4, 10, STANDING, 4, LIST)))
-        self.assertEqual((plan.rows, plan.columns, plan.arrays, plan.denominator, plan.cells), (3, 4, 6, 20, POOLED))
+        self.assertEqual((plan.rows, plan.columns, plan.array_count, plan.denominator, plan.cells), (3, 4, 6, 20, POOLED))
         draws = [plan.draw(number) for number in range(20)]
         self.assertEqual([sum(counts) for counts in zip(*draws)], POOLED)
 
@@ -50,8 +52,60 @@ class Tests(unittest.TestCase):
         stored = lufodimi.plan(2, 2, 10, CELLS)
         plan = lufodimi.Plan(stored)
         self.assertEqual(len(stored), 96)
-        self.assertEqual((plan.rows, plan.columns, plan.arrays, plan.denominator, plan.cells), (2, 2, 4, 10, CELLS))
+        self.assertEqual((plan.rows, plan.columns, plan.array_count, plan.denominator, plan.cells), (2, 2, 4, 10, CELLS))
         self.assertEqual([plan.draw(number) for number in range(10)], ARRAYS)
+
+    def test_arrays(self):
+        plan = lufodimi.Plan(lufodimi.plan(2, 2, 10, CELLS))
+        self.assertEqual(plan.arrays(), [(2, [0, 0, 0, 1]), (1, [0, 0, 1, 1]), (4, [0, 1, 1, 0]), (3, [1, 0, 0, 1])])
+        first = plan.array(1)
+        self.assertEqual((first.weight, first.counts), (2, [0, 0, 0, 1]))
+        first.counts[0] = 7  # a list of its own
+        self.assertEqual([plan.array(number) for number in range(1, 5)], plan.arrays())
+        for number in (0, 5, 257, 65_537, 2**31, 2**32 - 1):
+            self.refused(14, plan.array, number)
+
+    def test_arrays_are_those_of_the_numbers_in_turn(self):
+        plan = lufodimi.Plan(lufodimi.plan(2, 3, 1_000, [300_400, 70, 65_936, 1_500, 260, 999]))
+        in_turn = [counts for weight, counts in plan.arrays() for _ in range(weight)]
+        self.assertEqual((len(plan.arrays()), in_turn), (7, [plan.draw(number) for number in range(1_000)]))
+
+    def test_reasons(self):
+        reasons = [lufodimi.reason(2, 3, 10, EVERY_KIND, array) for array in range(1, 7)]
+        self.assertEqual(
+            reasons,
+            [
+                ("grand total", None, None, "down"),
+                ("column total", None, 1, "down"),
+                ("cell", 2, 3, "up"),
+                ("row total", 1, None, "down"),
+                ("cell", 1, 1, "down"),
+                ("cell", 1, 1, "all whole"),
+            ],
+        )
+        self.assertEqual(
+            [str(reason) for reason in reasons],
+            [
+                "the grand total, rounded down",
+                "the total of column 1, rounded down",
+                "the cell in row 2 and column 3, rounded up",
+                "the total of row 1, rounded down",
+                "the cell in row 1 and column 1, rounded down",
+                "all entries are whole",
+            ],
+        )
+        second = lufodimi.reason(2, 2, 10, iter(CELLS), 2)
+        self.assertEqual((second.kind, second.row, second.column, second.rounded), ("row total", 1, None, "down"))
+
+    def test_refusals_of_a_reason(self):
+        for array in (0, 5, 171, 2**31, 2**32 - 1):
+            self.refused(14, lufodimi.reason, 2, 2, 10, CELLS, array)
+        self.assertEqual(lufodimi.reason(1, 2, 7, [14, 7_000], 1), ("cell", 1, 1, "all whole"))
+        self.refused(14, lufodimi.reason, 1, 2, 7, [14, 7_000], 2)
+        self.refused(1, lufodimi.reason, 0, 2, 10, CELLS, 0)
+        self.refused(2, lufodimi.reason, 2, 2, 65_536, CELLS, 0)
+        self.refused(3, lufodimi.reason, 2, 2, 10, CELLS + [7], 0)
+        self.refused(4, lufodimi.reason, 2, 2, 10, [3, 4, 5, 10_001], 0)
 
     def test_shortest_plan(self):
         self.assertEqual(lufodimi.plan(1, 1, 1, [1]), bytes.fromhex("0100010101000000 0100000018000000 010000001c000000 01000000 0100"))
@@ -111,6 +165,7 @@ class Tests(unittest.TestCase):
         plan = lufodimi.Plan(bytes.fromhex(begin + "01000000010000000100000000000000 0100000000000000 0000010001000000"))
         self.assertEqual((plan.denominator, plan.cells), (2, [1, 1, 1, 0]))
         self.assertEqual([plan.draw(0), plan.draw(1)], [[1, 0, 0, 0], [0, 1, 1, 0]])
+        self.assertEqual(plan.arrays(), [(1, [1, 0, 0, 0]), (1, [0, 1, 1, 0])])
         self.assertEqual(plan.variances(), (3, -1, 1))
 
     def test_variances(self):
@@ -298,6 +353,10 @@ class Tests(unittest.TestCase):
             self.assertRaises(OverflowError, lufodimi.pool, 2, 2, 10, [3, 4, word, 6], 10, CELLS)
             self.assertRaises(OverflowError, lufodimi.pool, 2, 2, 10, CELLS, word, CELLS)
             self.assertRaises(OverflowError, lufodimi.pool, 2, 2, 10, CELLS, 10, [3, 4, word, 6])
+            self.assertRaises(OverflowError, lufodimi.reason, word, 2, 10, CELLS, 1)
+            self.assertRaises(OverflowError, lufodimi.reason, 2, 2, 10, [3, 4, word, 6], 1)
+            self.assertRaises(OverflowError, lufodimi.reason, 2, 2, 10, CELLS, word)
+            self.assertRaises(OverflowError, plan.array, word)
             self.assertRaises(OverflowError, plan.draw, word)
             self.assertRaises(OverflowError, run.draw, word)
         self.assertEqual(run.free, list(range(10)))
@@ -306,6 +365,8 @@ class Tests(unittest.TestCase):
         self.assertRaises(TypeError, lufodimi.plan, 2, 2, 10.0, CELLS)
         self.assertRaises(TypeError, lufodimi.plan, 2, 2, 10, [3, 4, 5, "6"])
         self.assertRaises(TypeError, lufodimi.pool, 2, 2, 10, CELLS, 10.0, CELLS)
+        self.assertRaises(TypeError, lufodimi.reason, 2, 2, 10, CELLS, 1.0)
+        self.assertRaises(TypeError, lufodimi.Plan(lufodimi.plan(2, 2, 10, CELLS)).array, 1.0)
         self.assertRaises(TypeError, lufodimi.Plan, 96)
         self.assertRaises(TypeError, lufodimi.Plan, None)
         self.assertRaises(TypeError, campaign, 23)
