@@ -10,6 +10,7 @@ mod parts;
 mod plan;
 mod pool;
 mod print;
+mod reason;
 mod round;
 mod variances;
 
@@ -23,6 +24,7 @@ const CALLS: &[(&[Kind], &[Named])] = &[
     (round::KINDS, round::NAMED),
     (pool::KINDS, pool::NAMED),
     (plan::KINDS, plan::NAMED),
+    (reason::KINDS, reason::NAMED),
     (open::KINDS, open::NAMED),
     (parts::KINDS, parts::NAMED),
     (draw::KINDS, draw::NAMED),

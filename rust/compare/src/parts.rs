@@ -1,5 +1,6 @@
-//! The calls that tell a plan's sizes and its cells.
+//! The calls that tell a plan's sizes, its cells and its arrays.
 
+mod array;
 mod literal;
 
 use compare::buffer::{lengths_around, Buffer};
@@ -20,6 +21,16 @@ pub const KINDS: &[Kind] = &[
         cases: 400,
         compare: |generator, calls| plans(generator, calls, Part::Cells),
     },
+    Kind {
+        name: "array-plans",
+        cases: 150,
+        compare: array::plans,
+    },
+    Kind {
+        name: "array-refusals",
+        cases: 150,
+        compare: array::refusals,
+    },
 ];
 
 pub const NAMED: &[Named] = &[
@@ -30,6 +41,10 @@ pub const NAMED: &[Named] = &[
     Named {
         name: "cells-literal",
         compare: literal::cells,
+    },
+    Named {
+        name: "array-stored-plans",
+        compare: array::stored_plans,
     },
 ];
 
