@@ -43,6 +43,10 @@ pub const NAMED: &[Named] = &[
         compare: literal::cells,
     },
     Named {
+        name: "array-literal",
+        compare: literal::arrays,
+    },
+    Named {
         name: "array-stored-plans",
         compare: array::stored_plans,
     },

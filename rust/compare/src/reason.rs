@@ -1,5 +1,7 @@
 //! The reason call: which entry set the weight of an array.
 
+mod literal;
+
 use compare::buffer::Buffer;
 use compare::cases::{require, Call, Calls, Difference, Kind, Named};
 use compare::lent_tables::{turned_back, LentTable};
@@ -71,6 +73,10 @@ pub const NAMED: &[Named] = &[
     Named {
         name: "reason-document-004-problem-2.4",
         compare: |calls| accepted(calls, &papers::problem_2_4()),
+    },
+    Named {
+        name: "reason-literal",
+        compare: literal::calls,
     },
 ];
 

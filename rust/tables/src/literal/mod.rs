@@ -11,6 +11,7 @@ pub mod open;
 pub mod parts;
 pub mod plan;
 pub mod pool;
+pub mod reason;
 pub mod round;
 pub mod runs;
 pub mod stored;

@@ -1,8 +1,8 @@
-//! What a stored plan has: calls beyond 01 that tell its sizes and its cells, with 01's
-//! refusals 5, 6 and 7.
+//! What a stored plan has: calls beyond 01 that tell its sizes, its cells and its arrays,
+//! with 01's refusals 5, 6 and 7, and with 14 of 02, F-6, before 7.
 
 use super::stored::{changed, longer, WIDE};
-use super::Call;
+use super::{Call, FIVE, SIX};
 
 /// A plan; the call lends a buffer for numbers.
 pub type Telling = Call<Vec<u8>, u32>;
@@ -50,5 +50,83 @@ pub fn cells() -> Vec<Telling> {
         // 5 and 7, 6 and 7
         refuses(&longer(WIDE), &[], 5),
         refuses(&heavy(), &[8; 5], 6),
+    ]
+}
+
+/// A plan, the number of an array and the buffers that are lent; the number that is
+/// returned, and the buffers as they are left.
+#[derive(Debug)]
+pub struct Array {
+    pub plan: Vec<u8>,
+    pub array: u32,
+    pub lent: Buffers,
+    pub number: u32,
+    pub left: Buffers,
+}
+
+/// The buffers for the weight and for the counts.
+#[derive(Clone, Debug, PartialEq, Eq)]
+pub struct Buffers {
+    pub weight: Vec<u32>,
+    pub counts: Vec<u16>,
+}
+
+fn buffers(weight: &[u32], counts: &[u16]) -> Buffers {
+    Buffers {
+        weight: weight.to_vec(),
+        counts: counts.to_vec(),
+    }
+}
+
+/// Buffers of just the needed lengths.
+fn enough() -> Buffers {
+    buffers(&[8], SIX)
+}
+
+fn tells_array(plan: &[u8], array: u32, lent: Buffers, left: Buffers) -> Array {
+    Array {
+        plan: plan.to_vec(),
+        array,
+        lent,
+        number: 0,
+        left,
+    }
+}
+
+fn refuses_array(plan: &[u8], array: u32, lent: Buffers, number: u32) -> Array {
+    Array {
+        plan: plan.to_vec(),
+        array,
+        lent: lent.clone(),
+        number,
+        left: lent,
+    }
+}
+
+/// Calls that tell an array, counted from 1.
+pub fn arrays() -> Vec<Array> {
+    let first = buffers(&[100], &[300, 0, 66, 1, 1, 1]);
+    let second = buffers(&[494], &[300, 0, 66, 2, 0, 1]);
+    let longer_buffers = buffers(&[8, 9], &[8, 8, 8, 8, 8, 8, 9]);
+    let last = buffers(&[64, 9], &[301, 1, 65, 1, 0, 1, 9]);
+    let none = buffers(&[], &[]);
+    vec![
+        tells_array(WIDE, 1, enough(), first),
+        tells_array(WIDE, 2, enough(), second),
+        // the last one, with longer buffers, whose rest stays
+        tells_array(WIDE, 7, longer_buffers, last),
+        // no array 0, none above the last
+        refuses_array(WIDE, 0, enough(), 14),
+        refuses_array(WIDE, 8, enough(), 14),
+        refuses_array(WIDE, 4_294_967_295, enough(), 14),
+        // no room for the weight, or for the counts
+        refuses_array(WIDE, 1, buffers(&[], SIX), 7),
+        refuses_array(WIDE, 1, buffers(&[8], FIVE), 7),
+        refuses_array(&longer(WIDE), 1, enough(), 5),
+        refuses_array(&heavy(), 1, enough(), 6),
+        // 14 with 7; 5 and 6 with both
+        refuses_array(WIDE, 8, none.clone(), 14),
+        refuses_array(&longer(WIDE), 0, none.clone(), 5),
+        refuses_array(&heavy(), 0, none, 6),
     ]
 }

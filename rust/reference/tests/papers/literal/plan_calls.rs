@@ -3,6 +3,7 @@
 use super::assert_rows;
 use crate::samples::stated_plan;
 use reference::{encode, number_of, Refusal};
+use tables::literal::parts::Buffers;
 use tables::literal::{draw, open, parts, stored, variances};
 
 #[test]
@@ -42,6 +43,21 @@ fn sizes() {
 #[test]
 fn cells() {
     assert_told(&parts::cells(), reference::cells);
+}
+
+#[test]
+fn arrays() {
+    assert_rows(&parts::arrays(), |row| {
+        let Buffers {
+            mut weight,
+            mut counts,
+        } = row.lent.clone();
+        let answer = reference::array(&row.plan, row.array, &mut weight, &mut counts);
+        (
+            (number_of(answer), Buffers { weight, counts }),
+            (row.number, row.left.clone()),
+        )
+    });
 }
 
 #[test]

@@ -1,12 +1,12 @@
-//! Tables: their check, controlled roundings, the calls "rounding", "plan" and "pool", and
-//! the examples of 01.
+//! Tables: their check, controlled roundings, the calls "rounding", "plan", "reason" and
+//! "pool", and the examples of 01.
 
 use super::assert_rows;
 use crate::samples::{accepted, planned_arrays, stored_plan};
 use reference::{draw, is_controlled_rounding, number_of, Refusal, Table};
 use tables::literal::examples::{self, Row, Said};
 use tables::literal::pool::{self, Buffers, Pool};
-use tables::literal::{check, plan, round};
+use tables::literal::{check, plan, reason, round};
 use tables::GivenTable;
 
 /// The number that a table's check gives.
@@ -60,6 +60,22 @@ fn calls_of_plan() {
         );
         let number = answer.unwrap_or_else(Refusal::number);
         ((number, bytes), (row.number, row.result.clone()))
+    });
+}
+
+#[test]
+fn calls_of_reason() {
+    assert_rows(&reason::calls(), |row| {
+        let (given, mut reply) = (&row.given.table, row.buffer.clone());
+        let answer = reference::reason(
+            given.rows,
+            given.columns,
+            given.denominator,
+            &given.cells,
+            row.given.array,
+            &mut reply,
+        );
+        ((number_of(answer), reply), (row.number, row.result.clone()))
     });
 }
 
