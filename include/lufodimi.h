@@ -21,7 +21,7 @@
  * - A refused start or draw stores the record's old count and rounds back, so the record has to be writable in any case.
  *
  * No call keeps a pointer, none uses a heap, none has a state of its own, so calls may run at the same time on different buffers.
- * Planning needs about 60 KB of stack, variances about 55 KB, every other call less than 8 KB.
+ * Planning needs about 60 KB of stack, variances about 55 KB, every other call less than 10 KB.
  */
 #ifndef LUFODIMI_H
 #define LUFODIMI_H

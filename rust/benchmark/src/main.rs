@@ -4,6 +4,7 @@ mod campaign;
 mod draw;
 mod open;
 mod plan;
+mod reason;
 mod variances;
 
 use benchmark::inputs;
@@ -12,6 +13,7 @@ fn main() {
     let tables = inputs::hundred_tables();
     plan::measure(&tables);
     let plans = inputs::stored_plans(&tables);
+    reason::measure(&tables, &plans);
     open::measure(&plans);
     draw::measure(&plans);
     campaign::measure(&plans);
