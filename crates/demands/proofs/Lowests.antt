@@ -10,8 +10,6 @@ use lib.Dec.{leb}
 use borrow.Author.Tests.{leb-true}
 use Rattle.base.specs.Lists.{all}
 use Rattle.base.proofs.Lists.{and-left, and-right, all-at-member}
-use Rattle.refusals.specs.Numbers.{numberOf}
-use Rattle.refusals.specs.Places.{placeOf, placeOnPlan}
 use Rattle.refusals.specs.declared.Refusal.{Refusal}
 use Rattle.refusals.specs.Due.{Test, refuse, due}
 use Rattle.refusals.proofs.Dues.{due-here, due-next, none-applies}
@@ -72,17 +70,18 @@ module _ (rank : Refusal → ℕ) where
   refuses : (l : List Test) → rising l ≡ true → Refuses rank l (due l)
   refuses l up = record { refused = lowest l up; accepted = none-applies l }
 
+-- each call by the order that its statement names
 pub each-refuses : EachRefuses
 unfolding rising all zipWith roundRefusal planRefusal openRefusal partRefusal drawRefusal startRefusal campaignRefusal poolRefusal replyRefusal arrayRefusal
 each-refuses = record {
-  rounding = λ r c d g room. refuses numberOf _ refl;
-  plan = λ r c d g room. refuses numberOf _ refl;
-  opening = λ b. refuses numberOf _ refl;
-  parts = λ b need room. refuses numberOf _ refl;
-  draw = λ b d room. refuses numberOf _ refl;
-  start = λ b s. refuses numberOf _ refl;
-  campaign-draw = λ b d s room. refuses placeOf _ refl;
-  pool = λ r c d g e h numbers room. refuses placeOf _ refl;
-  reason = λ r c d g k room. refuses placeOf _ refl;
-  array = λ b k one room. refuses placeOnPlan _ refl;
+  rounding = λ r c d g room. refuses _ _ refl;
+  plan = λ r c d g room. refuses _ _ refl;
+  opening = λ b. refuses _ _ refl;
+  parts = λ b need room. refuses _ _ refl;
+  draw = λ b d room. refuses _ _ refl;
+  start = λ b s. refuses _ _ refl;
+  campaign-draw = λ b d s room. refuses _ _ refl;
+  pool = λ r c d g e h numbers room. refuses _ _ refl;
+  reason = λ r c d g k room. refuses _ _ refl;
+  array = λ b k one room. refuses _ _ refl;
 }
