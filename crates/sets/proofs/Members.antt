@@ -1,13 +1,13 @@
 -- Laws on numbers as sets. Assumes nothing.
-use mathlib.Core.Path.{_≡_, refl, sym, ap, _∙_, subst}
+use mathlib.Core.Path.{_≡_, refl, sym, ap, _∙_}
 use Prim.Native.Nat.{ℕ, zero, suc, _+_, _-_, _*_, _/_, _%_, _^_, _≤_, _<_, min, max}
-use native.Mathlib.Nat.{pow-suc, pow-succ', div-div-eq-div-mul, div-lt-iff-lt-mul, lt-of-not-le, not-le-of-lt}
+use native.Mathlib.Nat.{pow-suc, pow-succ', div-div-eq-div-mul, div-eq-of-lt, lt-of-not-le}
 use native.Mathlib.Decide.{ℕ-discrete}
 use native.Mathlib.Omega.{arith}
-use lib.Bits.{bitAnd, bitOr, bitXor, differ, and-shr, or-shr, xor-shr, and-step, or-step, xor-step, xor-zero-r, xor-lt}
-use lib.Count.{leadingZeros, leading-top}
+use lib.Bits.{bitAnd, bitOr, bitXor, differ, and-shr, or-shr, xor-shr, and-step, or-step, xor-step, and-self, and-le-r, xor-zero-r, xor-lt}
+use lib.Count.{under, trailingZeros}
 use lib.Pow.{pow-pos, pow-mono}
-use Rattle.sets.specs.Set.{ind, on, Single, Some, Without, With, Minus}
+use Rattle.sets.specs.Set.{ind, on, Single, Some, Without, Rest, With, Minus}
 use Rattle.sets.proofs.Indicators.{ind-same, ind-other}
 
 pub on-le : (x i : ℕ) → on x i ≤ 1
@@ -25,6 +25,11 @@ on-suc x i = ap (λ (n : ℕ). n % 2) (ap (λ (n : ℕ). x / n) (pow-succ' 2 i) 
 pub on-zero : (i : ℕ) → on 0 i ≡ 0
 on-zero zero = on-first 0
 on-zero (suc i) = on-suc 0 i ∙ on-zero i
+
+-- a set with a member is not 0
+on-pos : (x i : ℕ) → on x i ≡ 1 → 0 < x
+on-pos zero i e = absurd (omega (arith, on-zero i))
+on-pos (suc x) i e = omega arith
 
 pub on-and : (a b i : ℕ) → on (bitAnd a b) i ≡ min (on a i) (on b i)
 unfolding on
@@ -94,24 +99,37 @@ drop-lt (suc i) x e =
 pub single-is : (i : ℕ) → i < 13 → Single i (2 ^ i)
 single-is i h = record { value = refl; small = let l : 2 ^ i ≤ 2 ^ 12 = pow-mono {j = 12} (omega arith) in omega arith; is = on-pow i }
 
-pub some-is : (x r : ℕ) → 0 < x → x < 8192 → leadingZeros 32 x + suc r ≡ 32 → Some x r
+-- the lowest digit that is set, and those below it
+lowest : (k x : ℕ) → 0 < x → x < 2 ^ k → on x (trailingZeros k x) ≡ 1
+unfolding trailingZeros
+lowest zero x p h = absurd (omega arith)
+lowest (suc k) x p h = go (λ q. lowest k (x / 2) q (let e = pow-suc 2 k in omega arith)) (x % 2) refl
+  where
+    go : (0 < x / 2 → on (x / 2) (trailingZeros k (x / 2)) ≡ 1) → (d : ℕ) → x % 2 ≡ d → on x (under d (trailingZeros k (x / 2))) ≡ 1
+    go rest zero e = on-suc x (trailingZeros k (x / 2)) ∙ rest (omega arith)
+    go rest (suc d) e = on-first x ∙ omega arith
+
+lower : (k x j : ℕ) → j < trailingZeros k x → on x j ≡ 0
+unfolding trailingZeros
+lower zero x j h = absurd (omega arith)
+lower (suc k) x j h = go (λ i. lower k (x / 2) i) (x % 2) refl j h
+  where
+    go : ((i : ℕ) → i < trailingZeros k (x / 2) → on (x / 2) i ≡ 0) → (d : ℕ) → x % 2 ≡ d → (i : ℕ) → i < under d (trailingZeros k (x / 2)) → on x i ≡ 0
+    go rest zero e zero l = on-first x ∙ e
+    go rest zero e (suc i) l = on-suc x i ∙ rest i (omega arith)
+    go rest (suc d) e i l = absurd (omega arith)
+
+pub some-is : (x : ℕ) → 0 < x → x < 8192 → Some x (trailingZeros 32 x)
 unfolding on
-some-is x r p h e =
-    let t = leading-top 32 x p (omega arith) in
-    let same : t .0 ≡ r = omega (arith, t .1) in
-    let low : 2 ^ r ≤ x = subst (λ (n : ℕ). 2 ^ n ≤ x) same (t .2) in
-    let high : x < 2 ^ suc r = subst (λ (n : ℕ). x < 2 ^ suc n) same (t .3) in
-    let pos : x / 2 ^ r < 1 → ⊥ = λ l. not-le-of-lt (let y : x < 1 * 2 ^ r = div-lt-iff-lt-mul (pow-pos r) .0 l in let z : x < 2 ^ r = omega arith in z) low in
-    let samePlace : x / 2 ^ r < 2 = div-lt-iff-lt-mul (pow-pos r) .1 (let y : x < 2 * 2 ^ r = subst (λ (n : ℕ). x < n) (pow-succ' 2 r) high in y) in
-    let one : 0 < x / 2 ^ r = lt-of-not-le (λ l. pos (omega arith)) in
-    record {
-      below = lt-of-not-le (λ l. let y : 2 ^ 13 ≤ 2 ^ r = pow-mono l in omega arith);
-      is = omega arith;
-    }
+some-is x p h =
+    let r = trailingZeros 32 x in
+    let is : on x r ≡ 1 = lowest 32 x p (omega arith) in
+    let none : 13 ≤ r → x / 2 ^ r ≡ 0 = λ l. let y : 2 ^ 13 ≤ 2 ^ r = pow-mono l in div-eq-of-lt (omega arith) in
+    record { below = lt-of-not-le (λ l. let z = none l in omega arith); is = is; first = lower 32 x }
 
 -- a set that is not empty has a member
 pub nonempty : (x : ℕ) → 0 < x → x < 8192 → (r : ℕ) × Some x r
-nonempty x p h = let t = leading-top 32 x p (omega arith) in (t .0, some-is x (t .0) p h (t .1))
+nonempty x p h = (trailingZeros 32 x, some-is x p h)
 
 pub without-is : (x i : ℕ) → on x i ≡ 1 → Without x i (bitXor x (2 ^ i))
 without-is x i e = record {
@@ -125,6 +143,27 @@ without-is x i e = record {
 
     go : (j : ℕ) → Dec (j ≡ i) → on (bitXor x (2 ^ i)) j + ind j i ≡ on x j
     go j d = omega (arith, on-xor x (2 ^ i) j, on-pow i j, differ-sub (on x j) (on (2 ^ i) j) (on-le x j) (le j d))
+
+-- subtracting 1 changes the lowest digit that is set and those below it
+and-before : (i x : ℕ) → on x i ≡ 1 → ((j : ℕ) → j < i → on x j ≡ 0) → bitAnd x (x - 1) ≡ bitXor x (2 ^ i)
+and-before zero x e low =
+    let o : x % 2 ≡ 1 = sym (on-first x) ∙ e in
+    let d : differ (x % 2) 1 ≡ 0 = ap (λ (n : ℕ). differ n 1) o in
+    let h : (x - 1) / 2 ≡ x / 2 = omega arith in
+    let a : bitAnd x (x - 1) ≡ bitAnd (x / 2) (x / 2) * 2 + min (x % 2) ((x - 1) % 2) = rw h at (and-step x (x - 1)) in
+    let s : bitXor x 1 ≡ bitXor (x / 2) 0 * 2 + differ (x % 2) 1 = xor-step x 1 in
+    omega (arith, and-self (x / 2), xor-zero-r (x / 2))
+and-before (suc i) x e low =
+    let o : x % 2 ≡ 0 = sym (on-first x) ∙ low 0 (omega arith) in
+    let f : on (x / 2) i ≡ 1 = sym (on-suc x i) ∙ e in
+    let p : 0 < x / 2 = on-pos (x / 2) i f in
+    let h : (x - 1) / 2 ≡ x / 2 - 1 = omega arith in
+    let a : bitAnd x (x - 1) ≡ bitAnd (x / 2) (x / 2 - 1) * 2 + min (x % 2) ((x - 1) % 2) = rw h at (and-step x (x - 1)) in
+    let s : bitXor x (2 ^ suc i) ≡ bitXor (x / 2) (2 ^ i) * 2 + x % 2 = simp (half-pow, even-pow, differ-none) at (xor-step x (2 ^ suc i)) in
+    omega (arith, and-before i (x / 2) f (λ j l. sym (on-suc x j) ∙ low (suc j) (omega arith)))
+
+pub rest-is : (x : ℕ) → 0 < x → Rest x (bitAnd x (x - 1))
+rest-is x p = record { less = omega (arith, and-le-r x (x - 1)); is = λ i s. rw (and-before i x (s .is) (s .first)) (without-is x i (s .is)) }
 
 pub with-is : (x i : ℕ) → on x i ≡ 0 → With x i (bitOr x (2 ^ i))
 with-is x i e = record { is = λ j. go j (ℕ-discrete j i) }

@@ -6,7 +6,7 @@ use native.Mathlib.Decide.{ℕ-discrete}
 use native.Mathlib.Omega.{arith}
 use borrow.Author.Count.{below-more}
 use lib.ListN.{getD}
-use Rattle.sets.specs.Set.{on, has, Some, Without, With, Join, Via, Picked, UnionOf}
+use Rattle.sets.specs.Set.{on, has, Some, Without, Rest, With, Join, Via, Picked, UnionOf}
 use Rattle.sets.proofs.Indicators.{ind-same, ind-other}
 use Rattle.sets.proofs.Members.{on-le, on-zero}
 
@@ -25,14 +25,17 @@ part-none {sets} {x} h = record {
   from = λ q e. absurd (omega (arith, on-zero q));
 }
 
-pub part-step : {sets : List ℕ} {x left r p r' left' : ℕ} → Part sets x left r → Some left p → Join r (getD sets p 0) r' → Without left p left' → Part sets x left' r'
-part-step {sets} {x} {left} {r} {p} {r'} {left'} t s j w = record {
+pub part-step : {sets : List ℕ} {x left r p r' left' : ℕ} → Part sets x left r → Some left p → Join r (getD sets p 0) r' → Rest left left' → Part sets x left' r'
+part-step {sets} {x} {left} {r} {p} {r'} {left'} t s j l = record {
   small = omega (arith, t .small, w .less);
   sub = λ i. omega (arith, t .sub i, w .is i);
   all = λ i q. go i q (ℕ-discrete i p);
   from = λ q e. look q e (on r q) refl;
 }
   where
+    w : Without left p left'
+    w = l .is p s
+
     go : (i q : ℕ) → Dec (i ≡ p) → on x i + has sets i q ≤ 1 + on r' q + on left' i
     go i q (yes e) = rw e (omega (arith, on-le x p, j .is q))
     go i q (no n) = omega (arith, t .all i q, w .is i, ind-other i p n, j .is q)
@@ -62,8 +65,9 @@ left-all h v = record { small = h; sub = λ p. omega arith; via = v }
 pub left-found : {sets : List ℕ} {x q left p b : ℕ} → Left sets x q left → Some left p → b ≡ has sets p q → b ≡ 1 → Picked sets x q p
 left-found {x = x} {p = p} t s e h = record { below = s .below; member = omega (arith, t .sub p, s .is, on-le x p); linked = omega arith }
 
-pub left-step : {sets : List ℕ} {x q left p left' b : ℕ} → Left sets x q left → b ≡ has sets p q → (b ≡ 1 → ⊥) → Without left p left' → Left sets x q left'
-left-step {sets} {x} {q} {left} {p} {left'} t i n w =
+pub left-step : {sets : List ℕ} {x q left p left' b : ℕ} → Left sets x q left → Some left p → b ≡ has sets p q → (b ≡ 1 → ⊥) → Rest left left' → Left sets x q left'
+left-step {sets} {x} {q} {left} {p} {left'} t s i n l =
+    let w = l .is p s in
     let v = t .via .picked in record {
       small = omega (arith, t .small, w .less);
       sub = λ i. omega (arith, t .sub i, w .is i);

@@ -43,15 +43,21 @@ pub record NewTo (x i : ℕ) : Type 0 where
   pub below : i < 13
   pub is : on x i ≡ 0
 
--- r is a member of x
+-- r is the first member of x
 pub record Some (x r : ℕ) : Type 0 where
   pub below : r < 13
   pub is : on x r ≡ 1
+  pub first : (j : ℕ) → j < r → on x j ≡ 0
 
 -- r is x without its member i
 pub record Without (x i r : ℕ) : Type 0 where
   pub less : r < x
   pub is : (j : ℕ) → on r j + ind j i ≡ on x j
+
+-- r is x without its first member
+pub record Rest (x r : ℕ) : Type 0 where
+  pub less : r < x
+  pub is : (i : ℕ) → Some x i → Without x i r
 
 -- r is x with the new member i
 pub record With (x i r : ℕ) : Type 0 where

@@ -2,7 +2,7 @@
 ghost use mathlib.Core.Path.{_≡_};
 ghost use Prim.Native.Nat.{_+_, _≤_, _<_};
 ghost use lib.ListN.{length};
-ghost use Rattle.sets.specs.Set.{on, Single, NotEmpty, MemberOf, NewTo, Some, Without, With, Meet, Join, PartOf, Minus, Picked, Pickable, UnionOf, Nonzero};
+ghost use Rattle.sets.specs.Set.{on, Single, NotEmpty, MemberOf, NewTo, Some, Without, Rest, With, Meet, Join, PartOf, Minus, Picked, Pickable, UnionOf, Nonzero};
 
 // The set of one member.
 pub fn single(i: usize) -> u32
@@ -20,12 +20,12 @@ pub fn member(x: u32, i: usize) -> u32
     (x >> (i as u32)) % 2
 }
 
-// A member of a set that is not empty: the last.
+// A member of a set that is not empty: the first.
 pub fn some(x: u32) -> usize
     requires { ⌜ NotEmpty x ⌝ }
     ensures { λ r. ⌜ Some x r ⌝ }
 {
-    (31 - u32::leading_zeros(x)) as usize
+    u32::trailing_zeros(x) as usize
 }
 
 // x without its member i.
@@ -34,6 +34,14 @@ pub fn without(x: u32, i: usize) -> u32
     ensures { λ r. ⌜ Without x i r ⌝ }
 {
     x ^ single(i)
+}
+
+// x without its first member, the one that `some` gives.
+pub fn rest(x: u32) -> u32
+    requires { ⌜ NotEmpty x ⌝ }
+    ensures { λ r. ⌜ Rest x r ⌝ }
+{
+    x & (x - 1)
 }
 
 // x with the new member i.
@@ -76,7 +84,7 @@ pub fn union_of(sets: &[u32; 13], x: u32) -> u32
     while left != 0 {
         let p = some(left);
         r = join(r, sets[p]);
-        left = without(left, p);
+        left = rest(left);
     }
     r
 }
@@ -92,7 +100,7 @@ pub fn pick(sets: &[u32; 13], x: u32, q: usize) -> usize
         if member(sets[p], q) == 1 {
             return p;
         }
-        left = without(left, p);
+        left = rest(left);
     }
     0
 }
