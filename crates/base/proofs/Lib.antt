@@ -6,8 +6,11 @@ pub mod Joins
 pub mod Buffers
 pub mod Puts
 pub mod Filling
+pub mod Storing
 pub mod Tests
 pub mod Tabulated
 pub mod Listing
 pub mod Searches
 pub mod Zips
+pub mod Differences
+pub mod Signs

@@ -5,15 +5,16 @@ use Prim.Native.Nat.{ℕ, zero, suc}
 use native.Mathlib.Omega.{arith}
 use lib.ListN.{length, getD}
 
-module _ (f : ℕ → ℕ → ℕ) where
-  pub zip-length : (l m : List ℕ) → length l ≡ length m → length (zipWith f l m) ≡ length l
+module _ {A B C : Type 0} (f : A → B → C) where
+  pub zip-length : (l : List A) (m : List B) → length l ≡ length m → length (zipWith f l m) ≡ length l
   unfolding zipWith
   zip-length [] m e = refl
   zip-length (x ∷ l) [] e = absurd (omega arith)
   zip-length (x ∷ l) (y ∷ m) e = ap suc (zip-length l m (omega arith))
 
-  -- beyond the end both read as 0
-  pub zip-at : f 0 0 ≡ 0 → (l m : List ℕ) → length l ≡ length m → (i : ℕ) → getD (zipWith f l m) i 0 ≡ f (getD l i 0) (getD m i 0)
+  -- beyond the end the lists read as a and b, and what is made of them as c
+  pub zip-at : {a : A} {b : B} {c : C} → f a b ≡ c → (l : List A) (m : List B) → length l ≡ length m → (i : ℕ)
+      → getD (zipWith f l m) i c ≡ f (getD l i a) (getD m i b)
   unfolding zipWith
   zip-at z [] [] e i = sym z
   zip-at z [] (y ∷ m) e i = absurd (omega arith)

@@ -4,7 +4,7 @@ use Prim.Native.Nat.{ℕ, _+_}
 use lib.ListN.{length, take, drop}
 
 -- some numbers at the start of a lent buffer, and what stood beyond them
-abbrev pub written : List ℕ → List ℕ → List ℕ
+abbrev pub written {ℓ} : {A : Type ℓ} → List A → List A → List A
 written n buffer = n ++ drop (length n) buffer
 
 -- a buffer with some numbers put at a place, and all else as before

@@ -2,6 +2,7 @@
 use mathlib.Core.Bool.{Bool, true, _&&_}
 use mathlib.Core.List.{List, [], _∷_, _++_}
 use Prim.Native.Nat.{ℕ, zero, suc, _+_, min}
+use lib.IntN.{ℤ, pos, _+ℤ_}
 
 -- f 0, .., f (n - 1)
 unfoldable pub tabulate {ℓ} : {A : Type ℓ} → ℕ → (ℕ → A) → List A
@@ -12,6 +13,11 @@ tabulate (suc n) f = f 0 ∷ tabulate n (λ i. f (suc i))
 unfoldable pub sum : List ℕ → ℕ
 sum [] = 0
 sum (x ∷ l) = x + sum l
+
+-- the sum of a list of numbers with a sign
+unfoldable pub sumℤ : List ℤ → ℤ
+sumℤ [] = pos 0
+sumℤ (z ∷ l) = z +ℤ sumℤ l
 
 -- f 0 + .. + f (n - 1)
 unfoldable pub sumTo : ℕ → (ℕ → ℕ) → ℕ

@@ -64,7 +64,7 @@ module _ (a b : ℕ) (g h : List ℕ) (alike : length g ≡ length h) where
       omega (
         arith,
         scaled-total s,
-        zip-at (λ x y. a * x + b * y) (omega (arith, mul-zero a, mul-zero b)) g h alike k,
+        zip-at (λ x y. a * x + b * y) {a = 0} {b = 0} {c = 0} (omega (arith, mul-zero a, mul-zero b)) g h alike k,
         mul-add a (getD g k 0) (sum (map (λ i. getD g i 0) s)),
         mul-add b (getD h k 0) (sum (map (λ i. getD h i 0) s)),
       )

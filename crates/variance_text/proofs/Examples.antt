@@ -1,13 +1,13 @@
 -- The examples hold, by computing both sides. Assumes nothing.
 use mathlib.Core.Path.{_≡_, refl}
 use mathlib.Core.List.{map}
-use Rattle.base.specs.Lists.{tabulate, sum, joinTo, all}
+use Rattle.base.specs.Lists.{tabulate, sum, joinTo, all, sumℤ}
 use Rattle.table.specs.Table.{total, entryPlaces}
 use Rattle.table.specs.Whole.{whole, roundsTo}
 use Rattle.refusals.specs.Due.{due}
 use Rattle.form.specs.Form.{number, decode, headRight, laidOut}
 use Rattle.opening.specs.Open.{consistent, openRefusal}
-use Rattle.variances.specs.Covariance.{covariance, sumℤ, extreme, covariances, numerators}
+use Rattle.variances.specs.Covariance.{covariance, extreme, covariances, numerators}
 use Rattle.printing.specs.Lines.{digits, decimal, spaced, line, refused}
 use Rattle.variance_text.specs.VarianceText.{signed, restOfLine, planText, goesOn, printedFrom, toRead, plansTo, programText}
 use Rattle.variance_text.specs.Examples.{numbers, numerals, heads, programs}

@@ -6,7 +6,7 @@ use native.Mathlib.Omega.{arith}
 use lib.IntN.{ℤ, pos, negsuc, subℕ}
 use lib.ListN.{length}
 use Rattle.variances.specs.Lifted.{lift}
-use Rattle.variances.proofs.Differences.{sub-below, sub-above}
+use Rattle.base.proofs.Differences.{sub-below, sub-above}
 use Rattle.printing.specs.Lines.{decimal}
 use Rattle.printing.specs.Write.{Room, Wrote}
 use Rattle.printing.proofs.Decimals.{decimal-most}

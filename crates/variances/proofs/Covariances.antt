@@ -8,7 +8,7 @@ use native.Mathlib.Nat.{mul-comm, mul-add, add-mul, mul-zero, mul-one, one-mul, 
 use native.Mathlib.Omega.{arith}
 use lib.IntN.{ℤ, pos, subℕ, _+ℤ_}
 use lib.ListN.{getD}
-use Rattle.base.specs.Lists.{sum}
+use Rattle.base.specs.Lists.{sum, sumℤ}
 use Rattle.base.proofs.Lists.{all-at-member}
 use Rattle.base.proofs.Sums.{list-add, list-ext, list-zero, list-le}
 use Rattle.table.specs.Table.{total, cellPlaces}
@@ -22,8 +22,8 @@ use Rattle.form.proofs.Layouts.{laid}
 use Rattle.opening.specs.Open.{heldTo, held, Opens}
 use Rattle.opening.proofs.Opening.{opens-layout}
 use Rattle.opening.proofs.Sound.{Sound, sound, weighted-cell, weighted-places}
-use Rattle.variances.specs.Covariance.{at, over, weightedProducts, covariance, cellCovariance, variance, sumℤ, overPairs, roundingVariance}
-use Rattle.variances.proofs.Differences.{sub-above, sub-none, sub-add, sums-same}
+use Rattle.variances.specs.Covariance.{at, over, weightedProducts, covariance, cellCovariance, variance, overPairs, roundingVariance}
+use Rattle.base.proofs.Differences.{sub-above, sub-none, sub-add, sums-same}
 
 -- the order does not matter
 pub symmetric : (p : Plan) (x y : List ℕ → ℕ) → covariance p x y ≡ covariance p y x

@@ -1,14 +1,14 @@
 -- The literal cases hold, by computing both sides. Assumes nothing.
 use mathlib.Core.Path.{_≡_, refl}
 use mathlib.Core.List.{map}
-use Rattle.base.specs.Lists.{tabulate, sum, joinTo, all}
+use Rattle.base.specs.Lists.{tabulate, sum, joinTo, all, sumℤ}
 use Rattle.table.specs.Table.{total, entryPlaces}
 use Rattle.table.specs.Whole.{whole, roundsTo}
 use Rattle.refusals.specs.Due.{due, answerOf, after}
 use Rattle.form.specs.Form.{number, decode, headRight, laidOut}
 use Rattle.opening.specs.Open.{consistent}
 use Rattle.parts.specs.Parts.{partRefusal}
-use Rattle.variances.specs.Covariance.{covariance, sumℤ, extreme, covariances, numerators}
+use Rattle.variances.specs.Covariance.{covariance, extreme, covariances, numerators}
 use Rattle.variances.specs.Examples.{cases, told, said}
 
 pub cases-told : map told cases ≡ map said cases

@@ -1,4 +1,3 @@
-pub mod Differences
 pub mod Covariances
 mod Folds
 mod Rows

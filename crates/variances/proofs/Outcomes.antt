@@ -13,7 +13,7 @@ use mir.Val.{Fits}
 use mir.Syntax.{w64}
 use lib.Dec.{leb}
 use borrow.Author.Tests.{le-leb, lt-leb, leb-true}
-use Rattle.base.specs.Lists.{tabulate, sumTo, joinTo, all}
+use Rattle.base.specs.Lists.{tabulate, sumTo, joinTo, all, sumℤ}
 use Rattle.base.specs.Buffers.{written}
 use Rattle.base.proofs.Buffers.{written-front}
 use Rattle.base.proofs.Sums.{sum-front}
@@ -29,10 +29,10 @@ use Rattle.opening.specs.Open.{Opens, openAnswer}
 use Rattle.opening.proofs.Opening.{opens-answer, opened-sized, sizes-product}
 use Rattle.opening.proofs.Scratch.{scratch-room}
 use Rattle.variances.specs.declared.Extremes.{Extremes}
-use Rattle.variances.specs.Covariance.{at, weightedProducts, covariance, cellCovariance, sumℤ, smaller, larger, extreme, covariances, numerators, roundingVariance}
+use Rattle.variances.specs.Covariance.{at, weightedProducts, covariance, cellCovariance, smaller, larger, extreme, covariances, numerators, roundingVariance}
 use Rattle.variances.specs.Lifted.{lift, Measured}
 use Rattle.variances.specs.Parts.{liftedPair, liftedPairs, CellsReady, ExtremesOf, widest, Extremal, SumReady, variancesOf, VariancesOf}
-use Rattle.variances.proofs.Differences.{sub-below, sub-above, sub-same}
+use Rattle.base.proofs.Differences.{sub-below, sub-above, sub-same}
 use Rattle.variances.proofs.Measuring.{scaled-small, product-small, lifted-small}
 use Rattle.variances.proofs.Covariances.{cell-variance-is}
 use Rattle.variances.proofs.Products.{ready-sound, ready-some, pair-liftable, cells-many, cells-few}

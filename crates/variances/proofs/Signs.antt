@@ -1,24 +1,21 @@
 -- Numbers with a sign, as the machine holds them, and the buffer of numerators. Assumes nothing.
 use mathlib.Core.Path.{_≡_, refl, sym, ap, ap₂, _∙_}
 use mathlib.Core.List.{List, [], _∷_, _++_}
-use Prim.Native.Nat.{ℕ, zero, suc, _+_, _-_, _*_, _<_, _≤_}
+use Prim.Native.Nat.{ℕ, zero, suc, _-_, _*_, _^_, _<_, _≤_}
 use native.Mathlib.Decide.{decLt}
 use native.Mathlib.Omega.{arith}
 use lib.IntN.{ℤ, pos, subℕ, _-ℤ_}
 use lib.ListN.{length, set, drop, length-set}
 use mir.Syntax.{w64}
-use mir.Val.{SFits, toZ, ofZ}
-use mir.Facts.{toZ-ofZ, toZ-pos}
+use mir.Val.{SFits}
+use mir.Facts.{toZ-ofZ}
 use Rattle.variances.specs.declared.Numerators.{Numerators}
 use Rattle.variances.specs.Lifted.{lift, numeratorsOf, WriteReady}
-use Rattle.variances.proofs.Differences.{sub-below, sub-above, sub-none}
+use Rattle.base.proofs.Differences.{sub-below, sub-above, sub-none}
+use Rattle.base.proofs.Signs.{there, signed-is}
 
-pub signed-is : (x : ℕ) → x ≤ 2 * lift → toZ w64 x ≡ pos x
-signed-is x h = toZ-pos w64 (omega arith)
-
--- a number, to the machine and back
-abbrev there : ℤ → ℤ
-there z = toZ w64 (ofZ w64 z)
+pub signed-small : (x : ℕ) → x ≤ 2 * lift → x < 2 ^ 63
+signed-small x h = omega arith
 
 lowered-fits : (x : ℕ) → x ≤ 2 * lift → SFits w64 (subℕ x lift)
 lowered-fits x h = go (decLt x lift)
@@ -33,7 +30,7 @@ sub-pos x (suc y) = refl
 
 module _ {x : ℕ} (h : x ≤ 2 * lift) {a b : ℤ} (p : a ≡ pos x) (q : b ≡ pos lift) where
   difference-is : there a -ℤ there b ≡ subℕ x lift
-  difference-is = ap₂ _-ℤ_ (ap there p ∙ signed-is x h) (ap there q ∙ signed-is lift (omega arith)) ∙ sub-pos x lift
+  difference-is = ap₂ _-ℤ_ (ap there p ∙ signed-is x (omega arith)) (ap there q ∙ signed-is lift (omega arith)) ∙ sub-pos x lift
 
   pub difference-fits : SFits w64 (there a -ℤ there b)
   difference-fits = rw difference-is (lowered-fits x h)
@@ -56,7 +53,7 @@ module _ {n : Numerators} {out : List ℤ} (w : WriteReady n out) where
       → set (set (set out 0 (there v)) 1 (there s)) 2 (there l) ≡ numeratorsOf n ++ drop 3 out
   numerators-stored p q r =
       rw (
-        ap there p ∙ signed-is (n .variances) (w .small .variances),
+        ap there p ∙ signed-is (n .variances) (signed-small _ (w .small .variances)),
         ap there q ∙ toZ-ofZ (lowered-fits (n .smallest) (w .small .smallest)),
         ap there r ∙ toZ-ofZ (lowered-fits (n .largest) (w .small .largest)),
       )

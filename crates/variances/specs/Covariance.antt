@@ -2,10 +2,10 @@
 use mathlib.Core.Bool.{cond}
 use mathlib.Core.List.{List, [], _∷_, map, foldl}
 use Prim.Native.Nat.{ℕ, _-_, _*_, _%_}
-use lib.IntN.{ℤ, pos, subℕ, _+ℤ_}
+use lib.IntN.{ℤ, pos, subℕ}
 use lib.ListN.{getD}
 use lib.Signed.{leZ}
-use Rattle.base.specs.Lists.{tabulate, sum, joinTo}
+use Rattle.base.specs.Lists.{tabulate, sum, sumℤ, joinTo}
 use Rattle.table.specs.Table.{total}
 use Rattle.form.specs.Plan.{Weighted, Plan, cellCount}
 
@@ -34,11 +34,6 @@ variance p s = covariance p (over s) (over s)
 -- f·(D - f), f the remainder of an entry by D: what its variance is where each array has it rounded down or up
 abbrev pub roundingVariance : ℕ → ℕ → ℕ
 roundingVariance d e = e % d * (d - e % d)
-
--- the sum of some numbers
-unfoldable pub sumℤ : List ℤ → ℤ
-sumℤ [] = pos 0
-sumℤ (z ∷ l) = z +ℤ sumℤ l
 
 -- the covariances over all ordered pairs of some places, a place with itself included, added up
 abbrev pub overPairs : Plan → List ℕ → ℤ

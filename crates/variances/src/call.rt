@@ -2,7 +2,7 @@
 ghost use mathlib.Core.Path.{_≡_};
 ghost use mathlib.Core.List.{_++_};
 ghost use Prim.Native.Nat.{_*_, _≤_};
-ghost use lib.IntN.{pos, _-ℤ_, subℕ};
+ghost use lib.IntN.{_-ℤ_, subℕ};
 ghost use lib.ListN.{length, drop};
 ghost use mir.Syntax.{w64};
 ghost use mir.Val.{SFits};
@@ -14,18 +14,11 @@ ghost use Rattle.variances.specs.Lifted.{lift, numeratorsOf, WriteReady}
 use crate::LIFT;
 use crate::Numerators;
 use crate::measure::measure;
+use base::convert::u64_to_i64;
 use opening::Opened;
 use opening::open::open;
 use refusals::Answer;
 use refusals::Refusal;
-
-// A number in a type that has a sign.
-fn signed(x: u64) -> i64
-    requires { ⌜ x ≤ 2 * lift ⌝ }
-    ensures { λ r. ⌜ r ≡ pos x ⌝ }
-{
-    x as i64
-}
 
 // The one number less the other, with its sign.
 fn difference(x: i64, y: i64) -> i64
@@ -40,7 +33,7 @@ fn lowered(x: u64) -> i64
     requires { ⌜ x ≤ 2 * lift ⌝ }
     ensures { λ r. ⌜ r ≡ subℕ x lift ⌝ }
 {
-    difference(signed(x), signed(LIFT))
+    difference(u64_to_i64(x), u64_to_i64(LIFT))
 }
 
 // Writes the three numerators.
@@ -48,7 +41,7 @@ fn write_numerators(n: Numerators, out: &mut [i64])
     requires { ⌜ WriteReady n (now out) ⌝ }
     ensures { λ _. ⌜ now (out .exit) ≡ numeratorsOf n ++ drop 3 (now (out .entry)) ⌝ }
 {
-    let variances = signed(n.variances);
+    let variances = u64_to_i64(n.variances);
     let smallest = lowered(n.smallest);
     let largest = lowered(n.largest);
     out[0] = variances;
