@@ -1,7 +1,7 @@
 -- What the check of a table says on each way through its tests. Assumes nothing.
 use mathlib.Core.Path.{_≡_, refl, sym, _∙_}
 use mathlib.Core.Bool.{Bool, true, false, not, _&&_}
-use mathlib.Core.List.{List}
+use mathlib.Core.List.{List, [], _∷_, _++_}
 use mathlib.Core.Option.{Option, some, none}
 use Prim.Native.Nat.{ℕ, _+_, _*_, _<_, _≤_}
 use native.Mathlib.Omega.{arith}
@@ -12,12 +12,13 @@ use mir.Syntax.{w32}
 use borrow.Author.Count.{below-more}
 use borrow.Author.Tests.{lt-leb, le-leb, leb-true, eq-eqb, ne-eqb, eqb-true, not-true, not-false}
 use Rattle.refusals.specs.declared.Refusal.{Refusal}
-use Rattle.refusals.specs.Due.{due, refusedOr}
-use Rattle.refusals.proofs.Dues.{not-here, not-later}
-use Rattle.table.specs.Check.{upTo, cellsWithin, tableTests, tableRefusal, checkOf}
+use Rattle.refusals.specs.Due.{Test, refuse, due}
+use Rattle.refusals.proofs.Dues.{not-here, not-later, due-first, due-second, first-none}
+use Rattle.table.specs.Check.{upTo, cellsWithin, sizeTests, tableRefusal, answered, sizesOf, checkOf}
 use Rattle.refusals.specs.declared.Refusal.the-variants.{Size, Denominator, CellCount, LargeCell}
 use Rattle.table.specs.declared.Table.{Table}
 use Rattle.table.specs.Shape.{IsTable}
+use Rattle.table.specs.declared.Checked.{Checked}
 use Rattle.table.specs.declared.Checked.the-variants.{Accepted, Refused}
 use Rattle.base.proofs.Lists.{all-intro, all-elim, all-fails, and-left, and-right}
 
@@ -63,72 +64,156 @@ within-not d g i p h = sym (all-fails _ g 0 i p (lt-leb _ _ h))
 pub passed : (bound n : ℕ) (b : Bool) → b ≡ upTo bound n → not b ≡ false → n ≤ bound
 passed bound n b e h = upTo-high bound n (sym e ∙ not-false b h)
 
--- the ways through the check
-module _ (r c d : ℕ) (g : List ℕ) where
+-- the ways through the check of the sizes
+module _ (r c d n : ℕ) where
   module _ (b : Bool) (be : b ≡ upTo 12 r) where
-    pub bad-rows : not b ≡ true → Refused Size ≡ checkOf r c d g
-    unfolding checkOf tableRefusal due
+    pub bad-rows : not b ≡ true → Refused Size ≡ sizesOf r c d n
+    unfolding sizesOf due
     bad-rows h = simp (sym be ∙ not-true b h)
 
     module _ (bh : not b ≡ false) (x : Bool) (xe : x ≡ upTo 12 c) where
       rows-good : upTo 12 r ≡ true
       rows-good = sym be ∙ not-false b bh
 
-      pub bad-columns : not x ≡ true → Refused Size ≡ checkOf r c d g
-      unfolding checkOf tableRefusal due
+      pub bad-columns : not x ≡ true → Refused Size ≡ sizesOf r c d n
+      unfolding sizesOf due
       bad-columns h = simp (rows-good, sym xe ∙ not-true x h)
 
       module _ (xh : not x ≡ false) (y : Bool) (ye : y ≡ upTo 65535 d) where
         columns-good : upTo 12 c ≡ true
         columns-good = sym xe ∙ not-false x xh
 
-        pub bad-denominator : not y ≡ true → Refused Denominator ≡ checkOf r c d g
-        unfolding checkOf tableRefusal due
+        pub bad-denominator : not y ≡ true → Refused Denominator ≡ sizesOf r c d n
+        unfolding sizesOf due
         bad-denominator h = simp (rows-good, columns-good, sym ye ∙ not-true y h)
 
         module _ (yh : not y ≡ false) where
           denominator-good : upTo 65535 d ≡ true
           denominator-good = sym ye ∙ not-false y yh
 
-          pub bad-count : (length g ≡ r * c → ⊥) → Refused CellCount ≡ checkOf r c d g
-          unfolding checkOf tableRefusal due
+          pub bad-count : (n ≡ r * c → ⊥) → Refused CellCount ≡ sizesOf r c d n
+          unfolding sizesOf due
           bad-count h = simp (rows-good, columns-good, denominator-good, ne-eqb _ _ h)
 
-          module _ (n : length g ≡ r * c) (z : Bool) (ze : z ≡ cellsWithin d g) where
-            pub bad-cell : not z ≡ true → Refused LargeCell ≡ checkOf r c d g
-            unfolding checkOf tableRefusal due
-            bad-cell h = simp (rows-good, columns-good, denominator-good, eq-eqb _ _ n, sym ze ∙ not-true z h)
+          pub good : n ≡ r * c → Accepted (record { rows = r; columns = c; denominator = d }) ≡ sizesOf r c d n
+          unfolding sizesOf due
+          good h = simp (rows-good, columns-good, denominator-good, eq-eqb _ _ h)
 
-            pub good : not z ≡ false → Accepted (record { rows = r; columns = c; denominator = d }) ≡ checkOf r c d g
-            unfolding checkOf tableRefusal due
-            good h = simp (rows-good, columns-good, denominator-good, eq-eqb _ _ n, sym ze ∙ not-false z h)
+-- what sizes that are refused nothing are
+pub record Sized (r c d n : ℕ) : Type 0 where
+  pub some-rows : 1 ≤ r
+  pub rows : r ≤ 12
+  pub some-columns : 1 ≤ c
+  pub columns : c ≤ 12
+  pub count : n ≡ r * c
+  pub some-denominator : 1 ≤ d
+  pub denominator : d ≤ 65535
+
+pub passed-sizes : (r c d n : ℕ) → due (sizeTests r c d n) ≡ none → Sized r c d n
+passed-sizes r c d n h =
+    let size : (upTo 12 r && upTo 12 c) ≡ true = not-false _ (not-here _ _ h) in
+    let h₁ = not-later _ _ h in
+    let denominator : upTo 65535 d ≡ true = not-false _ (not-here _ _ h₁) in
+    let count : eqb n (r * c) ≡ true = not-false _ (not-here _ _ (not-later _ _ h₁)) in
+    let rows = and-left (upTo 12 r) (upTo 12 c) size in
+    let columns = and-right (upTo 12 r) (upTo 12 c) size in
+    record {
+      some-rows = upTo-low 12 r rows;
+      rows = upTo-high 12 r rows;
+      some-columns = upTo-low 12 c columns;
+      columns = upTo-high 12 c columns;
+      count = eqb-true _ _ count;
+      some-denominator = upTo-low 65535 d denominator;
+      denominator = upTo-high 65535 d denominator;
+    }
+
+-- what an answer says of what is due
+module _ (r c d : ℕ) (o : Option Refusal) where
+  pub answered-refused : (x : Refusal) → Refused x ≡ answered r c d o → o ≡ some x
+  answered-refused x e = go o refl e
+    where
+      go : (u : Option Refusal) → o ≡ u → Refused x ≡ answered r c d u → o ≡ some x
+      go none p q = let z : _≡_ {A = ℕ} 0 1 = cc in absurd (omega arith)
+      go (some y) p q = p ∙ cc
+
+  pub answered-nothing : (t : Table) → Accepted t ≡ answered r c d o → o ≡ none
+  answered-nothing t e = go o refl e
+    where
+      go : (u : Option Refusal) → o ≡ u → Accepted t ≡ answered r c d u → o ≡ none
+      go none p q = p
+      go (some x) p q = let z : _≡_ {A = ℕ} 0 1 = cc in absurd (omega arith)
+
+  pub answered-sizes : (t : Table) → Accepted t ≡ answered r c d o → t ≡ record { rows = r; columns = c; denominator = d }
+  answered-sizes t e = let n = answered-nothing t e in let f : Accepted t ≡ answered r c d none = rw n at e in cc
+
+-- the cells of accepted sizes, of which z says whether they are within bounds
+module _ (r c d n : ℕ) {k : Checked} (e : k ≡ sizesOf r c d n) (z : Bool) where
+  abbrev all-due : Option Refusal
+  all-due = due (sizeTests r c d n ++ (refuse LargeCell (not z) ∷ []))
+
+  pub sizes-refused : (x : Refusal) → k ≡ Refused x → Refused x ≡ answered r c d all-due
+  unfolding sizesOf
+  sizes-refused x h = rw (due-first (sizeTests r c d n) (refuse LargeCell (not z) ∷ []) x (answered-refused r c d (due (sizeTests r c d n)) x (sym h ∙ e))) refl
+
+  module _ {t : Table} (h : k ≡ Accepted t) where
+    nothing : due (sizeTests r c d n) ≡ none
+    unfolding sizesOf
+    nothing = answered-nothing r c d (due (sizeTests r c d n)) t (sym h ∙ e)
+
+    pub sized : Sized r c d n
+    sized = passed-sizes r c d n nothing
+
+    pub sizes-are : t ≡ record { rows = r; columns = c; denominator = d }
+    unfolding sizesOf
+    sizes-are = answered-sizes r c d (due (sizeTests r c d n)) t (sym h ∙ e)
+
+    pub cell-refused : not z ≡ true → Refused LargeCell ≡ answered r c d all-due
+    unfolding due
+    cell-refused l = rw (due-second (sizeTests r c d n) (refuse LargeCell (not z) ∷ []) nothing) (simp l)
+
+    pub cells-accepted : not z ≡ false → Accepted t ≡ answered r c d all-due
+    unfolding due
+    cells-accepted l = rw (sizes-are, due-second (sizeTests r c d n) (refuse LargeCell (not z) ∷ []) nothing) (simp l)
+
+-- cells of such sizes that are within the bound are a table
+pub sized-table : {r c d : ℕ} {g : List ℕ} → Sized r c d (length g) → ((k : ℕ) → k < length g → getD g k 0 ≤ 1000 * d) → IsTable r c d g
+sized-table s h = record {
+  shape = record { some-rows = s .some-rows; rows = s .rows; some-columns = s .some-columns; columns = s .columns; cells = s .count };
+  some-denominator = s .some-denominator;
+  denominator = s .denominator;
+  within = h;
+}
+
+-- of one list of tests and one test more nothing is due: so not of that test
+pub last-passed : (l : List Test) (x : Refusal) (b : Bool) → due (l ++ (refuse x (not b) ∷ [])) ≡ none → b ≡ true
+last-passed l x b h = not-false b (not-here _ _ (sym (due-second l (refuse x (not b) ∷ []) (first-none l _ h)) ∙ h))
+
+-- the ways through the check of a table
+module _ (r c d : ℕ) (g : List ℕ) {k : Checked} (e : k ≡ sizesOf r c d (length g)) where
+  pub bad-sizes : (x : Refusal) → k ≡ Refused x → Refused x ≡ checkOf r c d g
+  unfolding checkOf tableRefusal
+  bad-sizes x h = sizes-refused r c d (length g) e (cellsWithin d g) x h
+
+  module _ {t : Table} (h : k ≡ Accepted t) where
+    pub denominator-small : d ≤ 65535
+    denominator-small = sized r c d (length g) e true h .denominator
+
+    module _ (z : Bool) (ze : z ≡ cellsWithin d g) where
+      pub bad-cell : not z ≡ true → Refused LargeCell ≡ checkOf r c d g
+      unfolding checkOf tableRefusal
+      bad-cell l = cell-refused r c d (length g) e (cellsWithin d g) h (rw ze at l)
+
+      pub good-cells : not z ≡ false → Accepted t ≡ checkOf r c d g
+      unfolding checkOf tableRefusal
+      good-cells l = cells-accepted r c d (length g) e (cellsWithin d g) h (rw ze at l)
 
 -- what the answer of the check says
 module _ (r c d : ℕ) (g : List ℕ) where
   pub passed-all : tableRefusal r c d g ≡ none → IsTable r c d g
   unfolding tableRefusal
   passed-all h =
-      let t = tableTests r c d g in
-      let size : (upTo 12 r && upTo 12 c) ≡ true = not-false _ (not-here _ _ h) in
-      let h₁ = not-later _ _ h in
-      let denominator : upTo 65535 d ≡ true = not-false _ (not-here _ _ h₁) in
-      let h₂ = not-later _ _ h₁ in
-      let count : eqb (length g) (r * c) ≡ true = not-false _ (not-here _ _ h₂) in
-      let cells : cellsWithin d g ≡ true = not-false _ (not-here _ _ (not-later _ _ h₂)) in
-      let rows = and-left (upTo 12 r) (upTo 12 c) size in
-      let columns = and-right (upTo 12 r) (upTo 12 c) size in
-      record {
-        shape = record {
-          some-rows = upTo-low 12 r rows;
-          rows = upTo-high 12 r rows;
-          some-columns = upTo-low 12 c columns;
-          columns = upTo-high 12 c columns;
-          cells = eqb-true _ _ count;
-        };
-        some-denominator = upTo-low 65535 d denominator;
-        denominator = upTo-high 65535 d denominator;
-        within = λ k h. leb-true (getD g k 0) (1000 * d) (all-elim _ g 0 cells k h);
-      }
+      sized-table (passed-sizes r c d (length g) (first-none (sizeTests r c d (length g)) _ h))
+      (λ k i. leb-true (getD g k 0) (1000 * d) (all-elim _ g 0 (last-passed (sizeTests r c d (length g)) LargeCell (cellsWithin d g) h) k i))
 
   -- an accepted table: its sizes, and that no refusal is due
   pub record Taken (t : Table) : Type 0 where
@@ -138,16 +223,10 @@ module _ (r c d : ℕ) (g : List ℕ) where
 
   pub accepted : (t : Table) → Accepted t ≡ checkOf r c d g → Taken t
   unfolding checkOf
-  accepted t e = go (tableRefusal r c d g) refl e
-    where
-      go : (o : Option Refusal) → tableRefusal r c d g ≡ o → Accepted t ≡ refusedOr Refused (Accepted (record { rows = r; columns = c; denominator = d })) o → Taken t
-      go none p q = record { table = passed-all p; sizes = cc; nothing-due = p }
-      go (some x) p q = let z : _≡_ {A = ℕ} 0 1 = cc in absurd (omega arith)
+  accepted t e =
+      let nothing = answered-nothing r c d (tableRefusal r c d g) t e in
+      record { table = passed-all nothing; sizes = answered-sizes r c d (tableRefusal r c d g) t e; nothing-due = nothing }
 
   pub refused : (x : Refusal) → Refused x ≡ checkOf r c d g → tableRefusal r c d g ≡ some x
   unfolding checkOf
-  refused x e = go (tableRefusal r c d g) refl e
-    where
-      go : (o : Option Refusal) → tableRefusal r c d g ≡ o → Refused x ≡ refusedOr Refused (Accepted (record { rows = r; columns = c; denominator = d })) o → tableRefusal r c d g ≡ some x
-      go none p q = let z : _≡_ {A = ℕ} 0 1 = cc in absurd (omega arith)
-      go (some y) p q = p ∙ cc
+  refused x e = answered-refused r c d (tableRefusal r c d g) x e

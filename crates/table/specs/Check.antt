@@ -1,6 +1,6 @@
 -- Which refusal a table meets (specification, "Refusals"). Assumes nothing.
 use mathlib.Core.Bool.{Bool, not, _&&_}
-use mathlib.Core.List.{List, [], _∷_}
+use mathlib.Core.List.{List, [], _∷_, _++_}
 use mathlib.Core.Option.{Option}
 use Prim.Native.Nat.{ℕ, _*_}
 use lib.ListN.{length}
@@ -22,22 +22,31 @@ upTo bound n = leb 1 n && leb n bound
 abbrev pub cellsWithin : ℕ → List ℕ → Bool
 cellsWithin d g = all (λ x. leb x (maxExpected * d)) g
 
--- The refusals of every call that takes a table, in the order of their numbers: 1, r or c not from 1 to 12; 2, D not from 1 to 65,535;
--- 3, the cells are not r·c many; 4, a cell above 1000·D.
-abbrev pub tableTests : ℕ → ℕ → ℕ → List ℕ → List Test
-tableTests r c d g =
+-- The first refusals of every call that takes a table of n cells: 1, r or c not from 1 to 12; 2, D not from 1 to 65,535; 3, the cells are not r·c many.
+abbrev pub sizeTests : ℕ → ℕ → ℕ → ℕ → List Test
+sizeTests r c d n =
     refuse Size (not (upTo maxRows r && upTo maxColumns c))
     ∷ refuse Denominator (not (upTo maxDenominator d))
-    ∷ refuse CellCount (not (eqb (length g) (r * c)))
-    ∷ refuse LargeCell (not (cellsWithin d g))
+    ∷ refuse CellCount (not (eqb n (r * c)))
     ∷ []
+
+-- and 4, a cell above 1000·D
+abbrev pub tableTests : ℕ → ℕ → ℕ → List ℕ → List Test
+tableTests r c d g = sizeTests r c d (length g) ++ (refuse LargeCell (not (cellsWithin d g)) ∷ [])
 
 unfoldable pub tableRefusal : ℕ → ℕ → ℕ → List ℕ → Option Refusal
 tableRefusal r c d g = due (tableTests r c d g)
 
--- a table is accepted if none of 1 to 4 applies to it: the check then answers with its sizes
+-- what a check answers, of what is due: the sizes where nothing is, else the refusal
+abbrev pub answered : ℕ → ℕ → ℕ → Option Refusal → Checked
+answered r c d x = refusedOr Refused (Accepted (record { rows = r; columns = c; denominator = d })) x
+
+-- the sizes are accepted if none of 1 to 3 applies; a table, if none of 1 to 4 applies to it
+unfoldable pub sizesOf : ℕ → ℕ → ℕ → ℕ → Checked
+sizesOf r c d n = answered r c d (due (sizeTests r c d n))
+
 unfoldable pub checkOf : ℕ → ℕ → ℕ → List ℕ → Checked
-checkOf r c d g = refusedOr Refused (Accepted (record { rows = r; columns = c; denominator = d })) (tableRefusal r c d g)
+checkOf r c d g = answered r c d (tableRefusal r c d g)
 
 -- the number that each answer of the check stands for: 0 for an accepted table, else the refusal's
 abbrev pub checkedNumber : Checked → ℕ

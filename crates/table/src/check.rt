@@ -1,7 +1,7 @@
 // The check of a table's numbers: refusals 1 to 4.
 ghost use mathlib.Core.Path.{_≡_};
 ghost use Prim.Native.Nat.{_≤_};
-ghost use Rattle.table.specs.Check.{upTo, checkOf, cellsWithin};
+ghost use Rattle.table.specs.Check.{upTo, sizesOf, checkOf, cellsWithin};
 use crate::Checked;
 use crate::Refusal;
 use crate::Table;
@@ -32,9 +32,9 @@ pub fn cells_within(denominator: u32, cells: &[u32]) -> bool
     true
 }
 
-// The table's sizes, or the lowest refusal that applies.
-pub fn check(rows: u32, columns: u32, denominator: u32, cells: &[u32]) -> Checked
-    ensures { λ r. ⌜ r ≡ checkOf rows columns denominator (now (cells .entry)) ⌝ }
+// The sizes of a table of `count` cells, or the lowest of 1 to 3 that applies.
+pub fn sizes(rows: u32, columns: u32, denominator: u32, count: usize) -> Checked
+    ensures { λ r. ⌜ r ≡ sizesOf rows columns denominator count ⌝ }
 {
     if !up_to(Table::MAX_ROWS, rows) {
         return Checked::Refused(Refusal::Size);
@@ -45,15 +45,28 @@ pub fn check(rows: u32, columns: u32, denominator: u32, cells: &[u32]) -> Checke
     if !up_to(Table::MAX_DENOMINATOR, denominator) {
         return Checked::Refused(Refusal::Denominator);
     }
-    if cells.len() != (rows as usize) * (columns as usize) {
+    if count != (rows as usize) * (columns as usize) {
         return Checked::Refused(Refusal::CellCount);
-    }
-    if !cells_within(denominator, cells) {
-        return Checked::Refused(Refusal::LargeCell);
     }
     Checked::Accepted(Table {
         rows: rows as usize,
         columns: columns as usize,
         denominator: denominator as u64,
     })
+}
+
+// The table's sizes, or the lowest refusal that applies.
+pub fn check(rows: u32, columns: u32, denominator: u32, cells: &[u32]) -> Checked
+    ensures { λ r. ⌜ r ≡ checkOf rows columns denominator (now (cells .entry)) ⌝ }
+{
+    let sized = sizes(rows, columns, denominator, cells.len());
+    match sized {
+        Checked::Refused(x) => Checked::Refused(x),
+        Checked::Accepted(t) => {
+            if !cells_within(denominator, cells) {
+                return Checked::Refused(Refusal::LargeCell);
+            }
+            Checked::Accepted(t)
+        }
+    }
 }
