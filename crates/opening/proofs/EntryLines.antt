@@ -17,7 +17,7 @@ use Rattle.base.proofs.Every.{sum-none, every-add, every-ext, every-intro}
 use Rattle.base.proofs.Filling.{filled-none, filled-more, filled-to, filled-join}
 use Rattle.table.specs.Table.{total}
 use Rattle.table.specs.Whole.{down, gap, up}
-use Rattle.table.specs.Divide.{Divides}
+use Rattle.table.specs.Divide.{Dividable, Divides}
 use Rattle.table.specs.Shape.{Shape, Reach}
 use Rattle.table.specs.declared.whole.Divided.{Divided}
 use Rattle.table.proofs.EntryPlaces.{entries-length, cell-at, row-at, column-at, grand-at}
@@ -99,12 +99,17 @@ module _ {k : Lines} {from n l : ℕ} (p : Placed k from n) (h : l < k .count) w
 
 -- an entry of the table over d
 module _ {k : Lines} {from l d : ℕ} {g : List ℕ} (p : Placed k from (length g)) (t : Cells d g) (h : l < k .count) where
-  whole-small : down d (total g (linePlaces k l)) ≤ 144000
-  whole-small =
+  most : total g (linePlaces k l) ≤ d * 144000
+  most =
       let number : k .number ≤ 144 = p .reach l h .count-small in
-      let most : total g (linePlaces k l) ≤ 144 * (1000 * d) = le-trans (total-at-most g (1000 * d) (t .within) (k .number) _) (mul-le-mul-right (1000 * d) number) in
-      let scaled : 144 * (1000 * d) ≡ d * 144000 = omega arith in
-      div-le-of-le-mul d (rw scaled at most)
+      let some : total g (linePlaces k l) ≤ 144 * (1000 * d) = le-trans (total-at-most g (1000 * d) (t .within) (k .number) _) (mul-le-mul-right (1000 * d) number) in
+      omega arith
+
+  whole-small : down d (total g (linePlaces k l)) ≤ 144000
+  whole-small = div-le-of-le-mul d most
+
+  pub line-dividable : {x : ℕ} → x ≡ total g (linePlaces k l) → Dividable d x
+  line-dividable e = record { some = t .some; small = omega (arith, e, most, t .denominator) }
 
   module _ {x : ℕ} {q : Divided} (e : x ≡ total g (linePlaces k l)) (i : Divides d x q) where
     pub whole-is : q .whole ≡ down d (total g (linePlaces k l))

@@ -11,6 +11,7 @@ use Rattle.base.specs.Search.{firstThat}
 use Rattle.base.proofs.Listing.{listed-at}
 use Rattle.base.proofs.Searches.{first-keeps, first-same, first-map}
 use Rattle.table.specs.Table.{total}
+use Rattle.table.specs.Divide.{Dividable}
 use Rattle.table.specs.Shape.{Shape}
 use Rattle.grid.specs.Grid.{gridAt, gridOf, gridOrder}
 use Rattle.grid.proofs.GridPlaces.{grid-entry}
@@ -76,6 +77,9 @@ module _ {r c w : ℕ} {e : List ℕ} (m : Remains r c w e) where
     counts-room = a;
     limits-room = b;
   }
+
+  pub entry-dividable : (k : ℕ) → Dividable w (getD e k 0)
+  entry-dividable k = record { some = m .some; small = omega (arith, m .small k) }
 
   pub sizes-ready : Sizes r c
   sizes-ready = record { rows = m .shape .rows; columns = m .shape .columns }

@@ -1,7 +1,8 @@
 // The reason of an array's weight: the rounds up to its own, each in place of the one before.
 ghost use mathlib.Core.Path.{_≡_};
 ghost use mathlib.Core.List.{List};
-ghost use Prim.Native.Nat.{ℕ, _<_};
+ghost use Prim.Native.Nat.{ℕ};
+ghost use Rattle.table.specs.Divide.{Dividable};
 ghost use Rattle.table.specs.Shape.{Shape, IsTable};
 ghost use Rattle.grid.specs.Grid.{gridOf};
 ghost use Rattle.rounds.specs.Rounds.{roundOn};
@@ -21,7 +22,7 @@ use table::whole::divide;
 
 // How an entry over w with its count was rounded, where the weight is x. All are whole just if the weight is all that is left.
 fn direction(w: u64, x: u64, entry: u64, count: u64, named: Entry) -> Reply
-    requires { ⌜ 0 < w ⌝ }
+    requires { ⌜ Dividable w entry ⌝ }
     ensures { λ r. ⌜ r ≡ directed w x entry count named ⌝ }
 {
     if x == w {

@@ -13,7 +13,7 @@ use Rattle.base.proofs.SumLoops.{Added, added-more, added-all}
 use Rattle.base.proofs.Lists.{each-more}
 use Rattle.base.proofs.Listing.{ListedTo, listed-none, listed-more, listed-all}
 use Rattle.table.specs.Whole.{down, up, gap}
-use Rattle.table.specs.Divide.{Divides}
+use Rattle.table.specs.Divide.{Dividable, Divides}
 use Rattle.table.specs.declared.whole.Divided.{Divided}
 use Rattle.table.proofs.Roundings.{gap-le}
 use Rattle.rounding.specs.Lines.{kind, PartsReady, Parts, lineSum, LineFits, CellsFit, TotalsFit, LinesFit, Needs, BitsFit, CountReady}
@@ -39,6 +39,9 @@ module _ {w : ℕ} {e low high cap : List ℕ} where
 
     pub parts-all : 169 ≤ k → Parts w e low high cap
     parts-all h = record { downs = listed-all (p .downs) h; ups = listed-all (p .ups) h; gaps = listed-all (p .gaps) h }
+
+pub entry-dividable : {w : ℕ} {e low₀ high₀ cap₀ : List ℕ} (k : ℕ) → PartsReady w e low₀ high₀ cap₀ → Dividable w (getD e k 0)
+entry-dividable k r = record { some = r .some; small = omega (arith, r .small k) }
 
 pub high-fits : {w : ℕ} {e low₀ high₀ cap₀ : List ℕ} (k : ℕ) {d : Divided} {x : ℕ} → PartsReady w e low₀ high₀ cap₀ → Divides w (getD e k 0) d → x ≡ d .gap
     → Fits w64 (d .whole + x)

@@ -24,9 +24,13 @@ pub record PartsReady (w : ℕ) (e low high cap : List ℕ) : Type 0 where
   pub high-len : length high ≡ 169
   pub cap-len : length cap ≡ 169
 
+-- the entries over w, rounded down
+abbrev pub roundedDown : ℕ → List ℕ → List ℕ
+roundedDown w e = tabulate 169 (λ k. down w (getD e k 0))
+
 -- the entries over w: rounded down, rounded up, and their gaps
 pub record Parts (w : ℕ) (e low high cap : List ℕ) : Type 0 where
-  pub downs : low ≡ tabulate 169 (λ k. down w (getD e k 0))
+  pub downs : low ≡ roundedDown w e
   pub ups : high ≡ tabulate 169 (λ k. up w (getD e k 0))
   pub gaps : cap ≡ tabulate 169 (λ k. gap w (getD e k 0))
 
@@ -91,10 +95,11 @@ pub record CountsReady (low high b n : List ℕ) : Type 0 where
   pub fit : BitsFit low high b
   pub len : length n ≡ 169
 
--- what the rounding of a grid over w into n needs
-pub record GridReady (w : ℕ) (e n : List ℕ) : Type 0 where
+-- what the rounding of a grid over w into n needs, with room for the entries rounded down
+pub record GridReady (w : ℕ) (e low n : List ℕ) : Type 0 where
   pub grid : IsGrid e
   pub some : 0 < w
+  pub low-len : length low ≡ 169
   pub len : length n ≡ 169
 
 -- of every table that has the entries e, n has the entries of the first controlled rounding

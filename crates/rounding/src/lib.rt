@@ -33,8 +33,9 @@ fn write_rounding(t: Table, cells: &[u32], counts: &mut [u16])
     let rows = t.rows;
     let columns = t.columns;
     let e = entries(t, cells);
+    let mut low = [0u64; 169];
     let mut n = [0u64; 169];
-    round_grid(&e, t.denominator, &mut n);
+    round_grid(&e, t.denominator, &mut low, &mut n);
     write_cells(&n, rows, columns, counts, 0);
 }
 

@@ -3,7 +3,7 @@ use mathlib.Core.Path.{_≡_, refl, sym, ap, _∙_}
 use mathlib.Core.List.{List}
 use Prim.Native.Nat.{ℕ, _+_, _-_, _*_, _/_, _≤_, _<_, min}
 use native.Mathlib.Decide.{decLt}
-use native.Mathlib.Nat.{mul-sub, le-mul-of-pos-right, lt-of-mul-lt-mul-right, div-mul-le-self, div-eq-of-lt-le}
+use native.Mathlib.Nat.{div-le-self, div-mul-le-self, div-add-mod', mod-lt}
 use native.Mathlib.Omega.{arith}
 use borrow.Author.Count.{below-more}
 use borrow.Author.Tests.{eq-eqb, ne-eqb}
@@ -12,53 +12,58 @@ use lib.Seq.{getD-set-other}
 use mir.Val.{Fits}
 use mir.Syntax.{w64}
 use Rattle.base.proofs.Lists.{each-more}
-use Rattle.table.proofs.RoundTests.{rounded-high, rounded-low}
+use Rattle.base.proofs.Listing.{listed-at}
+use Rattle.table.proofs.Roundings.{gap-le, rounds-low, rounds-high}
+use Rattle.rounding.specs.Lines.{roundedDown}
 use Rattle.rounds.specs.Rounds.{limitOf}
 use Rattle.rounds.specs.Grids.{LimitReady, Rounded, Smallest, Bears, Lost}
 
--- the two cases of a limit: n·w is at most e where the count n is e over w rounded down, and above e where it is rounded up
-module _ (w e n : ℕ) (p : LimitReady w e n) where
-  high : n * w < e + w
-  high = rounded-high w e n (p .some) (p .rounds)
+-- the two cases of a limit: the count is e over w rounded down, or one more
+module _ (w e q n : ℕ) (p : LimitReady w e q n) where
+  low : q * w ≤ e
+  low = rw (p .quotient) (div-mul-le-self e w)
 
-  low : e < (n + 1) * w
-  low = omega (arith, rounded-low w e n (p .some) (p .rounds))
+  next : (q + 1) * w ≡ q * w + w
+  next = omega arith
 
-  last : (n - 1) * w ≡ n * w - w
-  last = omega (arith, mul-sub w n 1)
+  high : e < (q + 1) * w
+  high = omega (arith, next, div-add-mod' e w, mod-lt e (p .some), ap (λ (x : ℕ). x * w) (p .quotient))
 
-  pub product-fits : Fits w64 (n * w)
-  product-fits = record { fits = omega (arith, high, p .small, p .entry-small) }
+  pub count-fits : Fits w64 (q + 1)
+  count-fits = record { fits = omega (arith, p .quotient, p .entry-small, div-le-self e w) }
 
-  pub count-fits : Fits w64 (n + 1)
-  count-fits = record { fits = omega (arith, high, p .small, p .entry-small, le-mul-of-pos-right n (p .some)) }
+  pub next-fits : Fits w64 ((q + 1) * w)
+  next-fits = record { fits = omega (arith, next, low, p .small, p .entry-small) }
 
-  pub next-fits : Fits w64 ((n + 1) * w)
-  next-fits = record { fits = omega (arith, high, p .small, p .entry-small) }
+  pub next-enough : e ≤ (q + 1) * w
+  next-enough = omega (arith, high)
 
-  pub next-enough : e ≤ (n + 1) * w
-  next-enough = omega (arith, low)
+  pub last-fits : Fits w64 (q * w)
+  last-fits = record { fits = omega (arith, low, p .entry-small) }
 
-  pub last-fits : Fits w64 ((n - 1) * w)
-  last-fits = record { fits = omega (arith, last, product-fits .fits) }
+  pub last-below : q * w ≤ e
+  last-below = low
 
-  pub last-below : (n - 1) * w ≤ e
-  last-below = omega (arith, last, high)
-
-  pub limit-down : n * w ≤ e → (n + 1) * w - e ≡ limitOf w e n
+  pub limit-down : n ≡ q → (q + 1) * w - e ≡ limitOf w e n
   unfolding limitOf
-  limit-down h = simp (eq-eqb n (e / w) (sym (div-eq-of-lt-le w h low)))
+  limit-down h = rw (h, eq-eqb q (e / w) (p .quotient)) refl
 
-  pub count-some : e < n * w → 1 ≤ n
-  count-some h = lt-of-mul-lt-mul-right w {m = 0} {n = n} (omega arith)
-
-  pub limit-up : e < n * w → e - (n - 1) * w ≡ limitOf w e n
+  pub limit-up : (n ≡ q → ⊥) → e - q * w ≡ limitOf w e n
   unfolding limitOf
-  limit-up h = simp (ne-eqb n (e / w) (λ q. let m : n * w ≡ e / w * w = ap (λ (x : ℕ). x * w) q in omega (arith, div-mul-le-self e w)))
+  limit-up h =
+      let other : n ≡ e / w → ⊥ = λ k. h (k ∙ sym (p .quotient)) in
+      let one-more : n - 1 ≡ q = omega (arith, p .quotient, rounds-low w e n (p .rounds), rounds-high w e n (p .rounds), gap-le w e) in
+      rw (ne-eqb n (e / w) other, one-more) refl
 
-pub limit-ready : {w : ℕ} {e n : List ℕ} {k : ℕ} → Rounded w e n → k < 169
-    → LimitReady w (getD e k 0) (getD n k 0)
-limit-ready {w} {e} {n} {k} t h = record { some = t .some; small = t .small; entry-small = t .entry-small k; rounds = t .rounds k h }
+pub limit-ready : {w : ℕ} {e q n : List ℕ} {k : ℕ} → Rounded w e n → q ≡ roundedDown w e → k < 169
+    → LimitReady w (getD e k 0) (getD q k 0) (getD n k 0)
+limit-ready {w} {e} {q} {n} {k} t is h = record {
+  quotient = listed-at 169 _ q is k h;
+  some = t .some;
+  small = t .small;
+  entry-small = t .entry-small k;
+  rounds = t .rounds k h;
+}
 
 -- the smallest of the first k
 pub record SmallestTo (l : List ℕ) (x k : ℕ) : Type 0 where

@@ -7,16 +7,17 @@ use lib.ListN.{length, getD}
 use Rattle.base.specs.Lists.{tabulate}
 use Rattle.grid.specs.Grid.{gridOf}
 use Rattle.table.specs.Table.{maxDenominator, maxEntry}
-use Rattle.table.specs.Whole.{roundsTo}
+use Rattle.table.specs.Whole.{down, roundsTo}
 use Rattle.table.specs.Shape.{Shape, IsTable}
 use Rattle.rounding.specs.Rounding.{firstRounding}
-use Rattle.rounding.specs.Lines.{IsGrid}
+use Rattle.rounding.specs.Lines.{roundedDown, IsGrid}
 use Rattle.form.specs.Plan.{Weighted}
 use Rattle.rounds.specs.Rounds.{limitOf, weightOf, without}
 use Rattle.rounds.specs.Progress.{Progress}
 
--- an entry e and a count n that rounds it over w, with numbers that are small
-pub record LimitReady (w e n : ℕ) : Type 0 where
+-- an entry e, over w rounded down q, and a count n that rounds it, with numbers that are small
+pub record LimitReady (w e q n : ℕ) : Type 0 where
+  pub quotient : q ≡ down w e
   pub some : 0 < w
   pub small : w ≤ maxDenominator
   pub entry-small : e ≤ maxEntry
@@ -33,9 +34,10 @@ pub record Rounded (w : ℕ) (e n : List ℕ) : Type 0 where
 abbrev pub limitAt : ℕ → List ℕ → List ℕ → ℕ → ℕ
 limitAt w e n k = limitOf w (getD e k 0) (getD n k 0)
 
--- what the limits of such counts need, with room for them
-pub record LimitsReady (w : ℕ) (e n l : List ℕ) : Type 0 where
+-- what the limits of such counts need: the entries rounded down, and room
+pub record LimitsReady (w : ℕ) (e q n l : List ℕ) : Type 0 where
   pub rounded : Rounded w e n
+  pub quotients : q ≡ roundedDown w e
   pub len : length l ≡ 169
 
 -- x is the smallest of 169 numbers

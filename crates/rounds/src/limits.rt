@@ -5,28 +5,28 @@ ghost use Rattle.base.specs.Lists.{tabulate};
 ghost use Rattle.rounds.specs.Rounds.{limitOf};
 ghost use Rattle.rounds.specs.Grids.{LimitReady, LimitsReady, limitAt, Smallest, Bears, Lost};
 
-// The limit of an entry e over w whose count is n: how much weight it bears until it leaves its bounds. It is t_ijk of Step 5 (Ernst 1981, Section 3) times w,
-// where a_ij is e over w and n_ijk is n. Since n rounds e over w, it is rounded down just if n·w is at most e.
-pub fn limit(w: u64, e: u64, n: u64) -> u64
-    requires { ⌜ LimitReady w e n ⌝ }
+// The limit of an entry e over w, rounded down q, whose count is n: how much weight it bears until it leaves its bounds. It is t_ijk of Step 5 (Ernst 1981,
+// Section 3) times w, where a_ij is e over w, ⌊a_ij⌋ is q and n_ijk is n.
+pub fn limit(w: u64, e: u64, q: u64, n: u64) -> u64
+    requires { ⌜ LimitReady w e q n ⌝ }
     ensures { λ r. ⌜ r ≡ limitOf w e n ⌝ }
 {
-    if n * w <= e {
+    if n == q {
         // t_ijk = ⌊a_ij⌋ + 1 − a_ij if n_ijk = ⌊a_ij⌋
-        (n + 1) * w - e
+        (q + 1) * w - e
     } else {
         // t_ijk = a_ij − ⌊a_ij⌋ if n_ijk = ⌊a_ij⌋ + 1
-        e - (n - 1) * w
+        e - q * w
     }
 }
 
-// The limits of all entries.
-pub fn limits(w: u64, e: &[u64; 169], n: &[u64; 169], l: &mut [u64; 169])
-    requires { ⌜ LimitsReady w (now e) (now n) (now l) ⌝ }
+// The limits of all entries, which over w, rounded down, are q.
+pub fn limits(w: u64, e: &[u64; 169], q: &[u64; 169], n: &[u64; 169], l: &mut [u64; 169])
+    requires { ⌜ LimitsReady w (now e) (now q) (now n) (now l) ⌝ }
     ensures { λ _. ⌜ now (l .exit) ≡ tabulate 169 (limitAt w (now (e .entry)) (now (n .entry))) ⌝ }
 {
     for k in 0..169 {
-        l[k] = limit(w, e[k], n[k]);
+        l[k] = limit(w, e[k], q[k], n[k]);
     }
 }
 

@@ -10,8 +10,9 @@ pub fn next_array(e: &[u64; 169], w: u64, n: &mut [u64; 169], l: &mut [u64; 169]
     requires { ⌜ NextReady w (now e) (now n) (now l) ⌝ }
     ensures { λ x. ⌜ NextArray w (now (e .entry)) (now (n .exit)) (now (l .exit)) x ⌝ }
 {
-    round_grid(e, w, n);
-    limits(w, e, n, l);
+    let mut q = [0u64; 169];
+    round_grid(e, w, &mut q, n);
+    limits(w, e, &q, n, l);
     smallest(l)
 }
 

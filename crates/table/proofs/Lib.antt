@@ -4,7 +4,6 @@ pub mod EntryPlaces
 pub mod EntryTests
 pub mod EntryBounds
 pub mod Roundings
-pub mod RoundTests
 pub mod Tables
 pub mod Sizes
 pub mod Divisions

@@ -8,27 +8,36 @@ use lib.ListN.{length, getD}
 use mir.Val.{Fits}
 use mir.Syntax.{w64}
 use Rattle.base.specs.Widths.{Widened}
+use Rattle.table.specs.Divide.{Dividable, Divides}
+use Rattle.table.specs.declared.whole.Divided.{Divided}
 use Rattle.base.proofs.SumLoops.{Summed, summed-all}
 use Rattle.variances.specs.Lifted.{lift, lifted}
 use Rattle.variances.specs.Covariance.{roundingVariance}
 use Rattle.variances.specs.Parts.{DenominatorWithin, VariancesOf, Liftable, ExtremesReady}
 
 module _ {d : ℕ} (h : DenominatorWithin d) (g : ℕ) where
-  pub rest-within : g % d ≤ d
-  rest-within = omega (arith, mod-lt g (h .some))
+  module _ {w e : ℕ} (a : Widened 4294967296 d w) (b : Widened 4294967296 g e) where
+    pub cell-dividable : Dividable w e
+    cell-dividable = record { some = omega (arith, a .is, h .some); small = omega (arith, b .small) }
 
-  module _ {x y : ℕ} (a : Widened 4294967296 (g % d) x) (b : Widened 4294967296 (d - g % d) y) where
-    pub variance-small : x * y ≤ 4294836225
-    variance-small =
-        let first : x ≤ 65535 = omega (arith, a .is, rest-within, h .most) in
-        let second : y ≤ 65535 = omega (arith, b .is, h .most) in
-        mul-le-mul first second
+    module _ {q : Divided} (p : Divides w e q) where
+      rest-is : q .rest ≡ g % d
+      rest-is = rw (a .is, b .is) at (p .rest-is)
 
-    pub variance-fits : Fits w64 (x * y)
-    variance-fits = record { fits = omega (arith, variance-small) }
+      pub rest-within : q .rest ≤ w
+      rest-within = omega (arith, rest-is, a .is, mod-lt g (h .some))
 
-    pub variance-is : Widened 4294967296 (roundingVariance d g) (x * y)
-    variance-is = record { is = ap₂ _*_ (a .is) (b .is); small = omega (arith, variance-small) }
+      pub variance-small : q .rest * (w - q .rest) ≤ 4294836225
+      variance-small =
+          let first : q .rest ≤ 65535 = omega (arith, rest-within, a .is, h .most) in
+          let second : w - q .rest ≤ 65535 = omega (arith, a .is, h .most) in
+          mul-le-mul first second
+
+      pub variance-fits : Fits w64 (q .rest * (w - q .rest))
+      variance-fits = record { fits = omega (arith, variance-small) }
+
+      pub variance-is : Widened 4294967296 (roundingVariance d g) (q .rest * (w - q .rest))
+      variance-is = record { is = ap₂ (λ (f n : ℕ). f * (n - f)) rest-is (a .is); small = omega (arith, variance-small) }
 
 -- places of a row
 module _ {d a : ℕ} {cells sums : List ℕ} (h : ExtremesReady d cells a sums) {b : ℕ} (l : b < a) where

@@ -12,14 +12,17 @@ use crate::pairs::extremes;
 use base::wide;
 use form::Sizes;
 use form::read::read_table;
+use table::whole::divide;
 
 // The variance of a cell: f·(D - f), f its remainder by D.
 fn cell_variance(d: u32, g: u32) -> u64
     requires { ⌜ DenominatorWithin d ⌝ }
     ensures { λ r. ⌜ Widened 4294967296 (roundingVariance d g) r ⌝ }
 {
-    let f = g % d;
-    wide(f) * wide(d - f)
+    let denominator = wide(d);
+    let divided = divide(wide(g), denominator);
+    let f = divided.rest;
+    f * (denominator - f)
 }
 
 // The variances of all cells, added up.

@@ -2,7 +2,7 @@ use Prim.Native.Nat.{_≤_, _-_}
 use mathlib.Core.Path.{_≡_, _∙_}
 use Rattle.table.specs.Table.{total}
 use Rattle.opening.specs.Lines.{linePlaces, BoundsFrom}
-use Rattle.opening.proofs.EntryLines.{line-start, line-reach, line-inside, line-place, whole-is, whole-fits, up-is, up-sum, up-fits, bounds-none, bounds-more, bounds-all}
+use Rattle.opening.proofs.EntryLines.{line-start, line-reach, line-inside, line-place, line-dividable, whole-is, whole-fits, up-is, up-sum, up-fits, bounds-none, bounds-more, bounds-all}
 use native.Mathlib.Omega.{arith}
 use borrow.Author.Needs.{needs}
 use Rattle.opening.proofs.lines.line_bounds.Statement.{statement}
@@ -22,6 +22,9 @@ mul-sum c = search (needs, line-start)
 
 sum-requires : tie.Need-sum-requires Inv-loop μ-loop
 sum-requires c κs = search (needs, line-reach)
+
+divide-requires : tie.Need-divide-requires Inv-loop μ-loop
+divide-requires c κs = search (needs, line-dividable)
 
 u64-to-u32-requires : tie.Need-u64-to-u32-requires Inv-loop μ-loop
 u64-to-u32-requires c κs = search (needs, whole-fits)
@@ -81,7 +84,7 @@ line-bounds-spec =
     loop-holds
     mul-sum
     sum-requires
-    (λ c κs. search needs)
+    divide-requires
     u64-to-u32-requires
     add-low
     mul-low

@@ -1,5 +1,5 @@
 use mathlib.Core.Path.{refl}
-use Rattle.reasons.proofs.Setting.{array-ready, sizes-ready, place-small, place-scaled, reason-told}
+use Rattle.reasons.proofs.Setting.{array-ready, sizes-ready, place-small, place-scaled, entry-dividable, reason-told}
 use borrow.Author.Needs.{needs}
 use Rattle.reasons.proofs.find.reason_of.Statement.{statement}
 use Rattle.reasons.proofs.find.reason_of.Tie as tie
@@ -26,7 +26,7 @@ array-read-direction : tie.Need-array-read-direction
 array-read-direction c = search (needs, place-small)
 
 direction-requires : tie.Need-direction-requires
-direction-requires c κs = c .before .before .before .before .before .before .before .pre .some
+direction-requires c κs = entry-dividable (c .before .before .before .before .before .before .before .pre) _
 
 returns : tie.Need-returns
 returns c =

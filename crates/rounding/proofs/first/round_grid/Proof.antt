@@ -33,7 +33,7 @@ returns c =
     let x = y .before .before .before in
     let a = x .before .before .before in
     let s = a .before .before .before .before in
-    rounded-grid (s .pre .grid) (s .pre .some) (a .parts .ensures) (x .needs .ensures) (y .needs2 .ensures) (z .first .ensures) (c .counts .ensures)
+    (a .parts .ensures .downs, rounded-grid (s .pre .grid) (s .pre .some) (a .parts .ensures) (x .needs .ensures) (y .needs2 .ensures) (z .first .ensures) (c .counts .ensures))
 
 pub round-grid-spec : {M : Type 1} → statement M
 round-grid-spec =

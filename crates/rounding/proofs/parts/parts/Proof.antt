@@ -1,5 +1,5 @@
 use Prim.Native.Nat.{_≤_, _-_}
-use Rattle.rounding.proofs.PartLoops.{PartsTo, parts-none, parts-more, parts-all, high-fits}
+use Rattle.rounding.proofs.PartLoops.{PartsTo, parts-none, parts-more, parts-all, entry-dividable, high-fits}
 use borrow.Author.Needs.{needs}
 use Rattle.rounding.proofs.parts.parts.Statement.{statement}
 use Rattle.rounding.proofs.parts.parts.Tie as tie
@@ -12,6 +12,9 @@ abbrev μ-loop : tie.MeasureT-loop
 
 loop-holds : tie.Need-loop-holds Inv-loop μ-loop
 loop-holds c = search (needs, parts-none)
+
+divide-requires : tie.Need-divide-requires Inv-loop μ-loop
+divide-requires c κs = search (needs, entry-dividable)
 
 add-high : tie.Need-add-high Inv-loop μ-loop
 add-high c = search (needs, high-fits)
@@ -31,7 +34,7 @@ parts-spec =
     loop-holds
     (λ c. search needs)
     (λ c. search needs)
-    (λ c κs. search needs)
+    divide-requires
     (λ c. search needs)
     (λ c. search needs)
     (λ c κs. search needs)

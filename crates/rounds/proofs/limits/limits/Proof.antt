@@ -7,18 +7,19 @@ use Rattle.rounds.proofs.limits.limits.Statement.{statement}
 use Rattle.rounds.proofs.limits.limits.Tie as tie
 
 abbrev Inv-loop : tie.InvT-loop
-Inv-loop w e n l₀ k₀ l k = (k ≤ 169) × ListedTo 169 (limitAt w e n) l k
+Inv-loop w e q n l₀ k₀ l k = (k ≤ 169) × ListedTo 169 (limitAt w e n) l k
 
 abbrev μ-loop : tie.MeasureT-loop
-μ-loop w e n l₀ k₀ l k = 169 - k
+μ-loop w e q n l₀ k₀ l k = 169 - k
 
 loop-holds : tie.Need-loop-holds Inv-loop μ-loop
 loop-holds c = search (needs, listed-none)
 
 limit-requires : tie.Need-limit-requires Inv-loop μ-loop
 limit-requires c κs =
-    let turn = c .before .before in
-    limit-ready (turn .before .before .pre .rounded) (turn .loop-test .taken)
+    let turn = c .before .before .before in
+    let s = turn .before .before in
+    limit-ready (s .pre .rounded) (s .pre .quotients) (turn .loop-test .taken)
 
 loop-again : tie.Need-loop-again Inv-loop μ-loop
 loop-again c = search (needs, listed-more)
@@ -33,6 +34,8 @@ limits-spec =
     Inv-loop
     μ-loop
     loop-holds
+    (λ c. search needs)
+    (λ c. search needs)
     (λ c. search needs)
     (λ c. search needs)
     (λ c. search needs)
