@@ -8,6 +8,7 @@ pub mod FirstGrids
 pub mod GridLines
 pub mod GridRoundings
 pub mod PartLoops
+pub mod CountLoops
 pub mod CellWrites
 pub mod Calls
 pub mod Existence

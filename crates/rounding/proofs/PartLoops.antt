@@ -1,14 +1,13 @@
 -- What the loops over entries rounded down and up keep. Assumes nothing.
 use mathlib.Core.Path.{_≡_, refl, ap, ap₂, _∙_}
 use mathlib.Core.List.{List}
-use Prim.Native.Nat.{ℕ, _+_, _-_, _*_, _≤_, _<_}
+use Prim.Native.Nat.{ℕ, _+_, _*_, _≤_, _<_}
 use native.Mathlib.Nat.{add-mul, mul-le-mul-right, le-of-lt, div-le-self}
 use native.Mathlib.Omega.{arith}
 use lib.ListN.{length, getD, set, replicate, length-set, length-replicate}
 use lib.Seq.{getD-set-same, getD-set-other}
 use mir.Val.{Fits}
 use mir.Syntax.{w64}
-use borrow.Author.Tests.{eq-eqb, ne-eqb}
 use Rattle.base.proofs.SumLoops.{Added, added-more, added-all}
 use Rattle.base.proofs.Lists.{each-more}
 use Rattle.base.proofs.Listing.{ListedTo, listed-none, listed-more, listed-all}
@@ -16,7 +15,7 @@ use Rattle.table.specs.Whole.{down, up, gap}
 use Rattle.table.specs.Divide.{Dividable, Divides}
 use Rattle.table.specs.declared.whole.Divided.{Divided}
 use Rattle.table.proofs.Roundings.{gap-le}
-use Rattle.rounding.specs.Lines.{kind, PartsReady, Parts, lineSum, LineFits, CellsFit, TotalsFit, LinesFit, Needs, BitsFit, CountReady}
+use Rattle.rounding.specs.Lines.{PartsReady, Parts, lineSum, LineFits, CellsFit, TotalsFit, LinesFit, Needs}
 
 -- the parts of the first k entries
 pub record PartsTo (w : ℕ) (e low high cap : List ℕ) (k : ℕ) : Type 0 where
@@ -47,26 +46,16 @@ pub high-fits : {w : ℕ} {e low₀ high₀ cap₀ : List ℕ} (k : ℕ) {d : Di
     → Fits w64 (d .whole + x)
 high-fits {w} {e} k r is xe = record { fits = omega (arith, is .whole-is, is .gap-is, r .small k, div-le-self (getD e k 0) w, gap-le w (getD e k 0)) }
 
--- the four kinds of places, with the value of the bit read
-module _ (p q low high bit : ℕ) {x : ℕ} (e : x ≡ bit) where
-  pub count-grand : p ≡ 12 → q ≡ 12 → low + x ≡ kind p q (low + bit) (high - bit)
-  unfolding kind
-  count-grand h k = simp (eq-eqb p 12 h, eq-eqb q 12 k, e)
+-- place k of the first twelve of a line of 13 places, `step` apart
+module _ (start step : ℕ) {k at : ℕ} (inside : start + 12 * step < 169) (next : at ≡ start + k * step) (h : k < 12) where
+  pub line-inside : at < 169
+  line-inside = omega (arith, mul-le-mul-right step (le-of-lt h))
 
-  pub count-column : p ≡ 12 → (q ≡ 12 → ⊥) → high - x ≡ kind p q (low + bit) (high - bit)
-  unfolding kind
-  count-column h k = simp (eq-eqb p 12 h, ne-eqb q 12 k, e)
+  pub line-scaled : Fits w64 (at * 8)
+  line-scaled = record { fits = omega (arith, line-inside) }
 
-  pub count-row : (p ≡ 12 → ⊥) → q ≡ 12 → high - x ≡ kind p q (low + bit) (high - bit)
-  unfolding kind
-  count-row h k = simp (ne-eqb p 12 h, eq-eqb q 12 k, e)
-
-  pub count-cell : (p ≡ 12 → ⊥) → (q ≡ 12 → ⊥) → low + x ≡ kind p q (low + bit) (high - bit)
-  unfolding kind
-  count-cell h k = simp (ne-eqb p 12 h, ne-eqb q 12 k, e)
-
-pub count-ready : {low high b : List ℕ} {k : ℕ} → BitsFit low high b → k < 169 → CountReady (getD low k 0) (getD high k 0) (getD b k 0)
-count-ready {low} {high} {b} {k} t h = record { small = t .small k; enough = t .bits k h }
+  pub line-step : step ≤ 13 → Fits w64 (at + step)
+  line-step small = record { fits = omega (arith, line-inside) }
 
 -- a sum along a line
 abbrev pub LineTo : List ℕ → ℕ → ℕ → ℕ → ℕ → ℕ → Type 0
@@ -74,15 +63,6 @@ LineTo l start step k s at = Added (λ i. getD l i 0) start step 9437040002 k s 
 
 module _ {l : List ℕ} {start step k s at : ℕ} (t : LineTo l start step k s at) where
   module _ (a : LineFits l start step) (h : k < 12) where
-    pub line-inside : at < 169
-    line-inside = omega (arith, t .next, a .inside, mul-le-mul-right step (le-of-lt h))
-
-    pub line-scaled : Fits w64 (at * 8)
-    line-scaled = record { fits = omega (arith, line-inside) }
-
-    pub line-step : Fits w64 (at + step)
-    line-step = record { fits = omega (arith, line-inside, a .step-small) }
-
     pub line-fits : Fits w64 (s + getD l at 0)
     line-fits = record { fits = omega (arith, t .small, a .small at) }
 

@@ -73,9 +73,16 @@ pub record BitsFit (low high b : List ℕ) : Type 0 where
   pub small : (k : ℕ) → getD low k 0 ≤ maxEntry + 1
   pub bits : (k : ℕ) → k < 169 → getD b k 0 ≤ getD high k 0
 
+-- a bit added to an entry rounded down, and one taken off an entry rounded up
+abbrev pub addedTo : List ℕ → List ℕ → ℕ → ℕ
+addedTo low b k = getD low k 0 + getD b k 0
+
+abbrev pub takenOff : List ℕ → List ℕ → ℕ → ℕ
+takenOff high b k = getD high k 0 - getD b k 0
+
 -- the count at place k: the bit of a row or column total is taken off the entry rounded up, that of a cell or the grand total is added to it rounded down
 abbrev pub countAt : List ℕ → List ℕ → List ℕ → ℕ → ℕ
-countAt low high b k = kind (k / 13) (k % 13) (getD low k 0 + getD b k 0) (getD high k 0 - getD b k 0)
+countAt low high b k = kind (k / 13) (k % 13) (addedTo low b k) (takenOff high b k)
 
 -- the entries of some table, small enough that all sums fit
 pub record IsGrid (e : List ℕ) : Type 0 where
@@ -86,14 +93,23 @@ pub record IsGrid (e : List ℕ) : Type 0 where
   pub is : e ≡ gridOf rows columns cells
   pub small : (k : ℕ) → getD e k 0 ≤ maxEntry
 
--- what a count needs, and all counts
-pub record CountReady (low high bit : ℕ) : Type 0 where
-  pub small : low ≤ maxEntry + 1
-  pub enough : bit ≤ high
+-- what the counts of twelve totals need, from `start` on, `step` apart, and all counts
+pub record TotalsReady (high b n : List ℕ) (start step : ℕ) : Type 0 where
+  pub bits : (k : ℕ) → k < 169 → getD b k 0 ≤ getD high k 0
+  pub step-some : 1 ≤ step
+  pub step-small : step ≤ 13
+  pub inside : start + 12 * step < 169
+  pub len : length n ≡ 169
 
 pub record CountsReady (low high b n : List ℕ) : Type 0 where
   pub fit : BitsFit low high b
   pub len : length n ≡ 169
+
+-- `new` holds f at the first `count` places from `start` on, `step` apart, and elsewhere what `old` holds
+pub record Overwritten (f : ℕ → ℕ) (start step : ℕ) (old new : List ℕ) (count : ℕ) : Type 0 where
+  pub len : length new ≡ length old
+  pub on : (i : ℕ) → i < count → getD new (start + i * step) 0 ≡ f (start + i * step)
+  pub off : (k : ℕ) → ((i : ℕ) → i < count → k ≡ start + i * step → ⊥) → getD new k 0 ≡ getD old k 0
 
 -- what the rounding of a grid over w into n needs, with room for the entries rounded down
 pub record GridReady (w : ℕ) (e low n : List ℕ) : Type 0 where

@@ -1,8 +1,9 @@
 // A table's entries rounded down and up, and counts from them.
 ghost use mathlib.Core.Path.{_≡_};
-ghost use Prim.Native.Nat.{_+_, _-_};
+ghost use Prim.Native.Nat.{_+_, _≤_};
 ghost use Rattle.base.specs.Lists.{tabulate};
-ghost use Rattle.rounding.specs.Lines.{kind, PartsReady, Parts, CountReady, CountsReady, countAt};
+ghost use Rattle.table.specs.Table.{maxEntry};
+ghost use Rattle.rounding.specs.Lines.{PartsReady, Parts, takenOff, TotalsReady, Overwritten, CountsReady, countAt};
 use base::convert::u8_to_u64;
 use table::whole::divide;
 
@@ -25,31 +26,34 @@ pub fn parts(
     }
 }
 
-// The count at row p and column q: the bit of a row or column total is taken off the entry rounded up, that of a cell or the grand total is added to it
-// rounded down.
-pub fn count(p: usize, q: usize, low: u64, high: u64, bit: u8) -> u64
-    requires { ⌜ CountReady low high bit ⌝ }
-    ensures { λ r. ⌜ r ≡ kind p q (low + bit) (high - bit) ⌝ }
+// The count of a cell or of the grand total: the bit is added to the entry rounded down.
+fn count(low: u64, bit: u8) -> u64
+    requires { ⌜ low ≤ maxEntry + 1 ⌝ }
+    ensures { λ r. ⌜ r ≡ low + bit ⌝ }
 {
-    let one = u8_to_u64(bit);
-    if p == 12 {
-        if q == 12 {
-            return low + one;
-        }
-        return high - one;
-    }
-    if q == 12 {
-        return high - one;
-    }
-    low + one
+    low + u8_to_u64(bit)
 }
 
-// The counts of all entries.
+// The counts of twelve totals, from place `start` on, `step` apart: the bit is taken off the entry rounded up.
+fn totals(high: &[u64; 169], bits: &[u8; 169], n: &mut [u64; 169], start: usize, step: usize)
+    requires { ⌜ TotalsReady (now high) (now bits) (now n) start step ⌝ }
+    ensures { λ _. ⌜ Overwritten (takenOff (now (high .entry)) (now (bits .entry))) start step (now (n .entry)) (now (n .exit)) 12 ⌝ }
+{
+    let mut at = start;
+    for i in 0..12usize {
+        n[at] = high[at] - u8_to_u64(bits[at]);
+        at = at + step;
+    }
+}
+
+// The counts of all entries. The loop has no branches, so that it goes through several places at once; the totals are then stored over what it left.
 pub fn counts(low: &[u64; 169], high: &[u64; 169], bits: &[u8; 169], n: &mut [u64; 169])
     requires { ⌜ CountsReady (now low) (now high) (now bits) (now n) ⌝ }
     ensures { λ _. ⌜ now (n .exit) ≡ tabulate 169 (countAt (now (low .entry)) (now (high .entry)) (now (bits .entry))) ⌝ }
 {
     for k in 0..169 {
-        n[k] = count(k / 13, k % 13, low[k], high[k], bits[k]);
+        n[k] = count(low[k], bits[k]);
     }
+    totals(high, bits, n, 12, 13);
+    totals(high, bits, n, 156, 1);
 }
