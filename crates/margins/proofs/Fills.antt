@@ -14,7 +14,7 @@ use Rattle.base.proofs.Sums.{sum-ext, sum-add, sum-mul, sum-swap, sum-term}
 use Rattle.sets.specs.Set.{num, ind, on, Without, Nonzero}
 use Rattle.margins.specs.Level.{Stuck}
 use Rattle.margins.specs.Move.{OneMore, Augmented}
-use Rattle.margins.specs.Board.{Board, boardOf, Places, rowSum, colSum, Feasible, Room, RowsFilled, StillLacking}
+use Rattle.margins.specs.Board.{Board, boardOf, Places, rowSum, colSum, Feasible, Room, RowsFilled, Lacking, StillLacking}
 use Rattle.sets.proofs.Indicators.{ind-same, ind-other}
 use Rattle.margins.proofs.Fixes.{places-more, row-more, col-more}
 use Rattle.margins.proofs.Cuts.{cut}
@@ -60,11 +60,7 @@ feasible-filled f s =
       };
     }
 
--- the columns that lack something
-pub record Lacking (lack : List ℕ) (columns : ℕ) : Type 0 where
-  pub is : (q : ℕ) → q < 13 → on columns q ≡ min (getD lack q 0) 1
-
-lacking-all : {lack : List ℕ} {columns : ℕ} → Nonzero lack 0 columns → Lacking lack columns
+pub lacking-all : {lack : List ℕ} {columns : ℕ} → Nonzero lack 0 columns → Lacking lack columns
 lacking-all z = record { is = λ q h. simp zero-add at (z .is q h) }
 
 -- one search, with the columns that lack something
@@ -118,8 +114,8 @@ pub record InRow (up₀ down₀ up down one lack₀ lack : List ℕ) (i k column
   pub filled : RowsFilled (boardOf up₀ down₀ one) (boardOf up down one) lack₀ lack (λ p. k * ind p i)
   pub lacks : Lacking lack columns
 
-pub row-none : {up down one lack : List ℕ} {i columns : ℕ} → Places up down one → length lack ≡ 13 → Nonzero lack 0 columns → InRow up down up down one lack lack i 0 columns
-row-none m len z = record { places = m; filled = filled-none len (λ p hp. omega arith); lacks = lacking-all z }
+pub row-none : {up down one lack : List ℕ} {i columns : ℕ} → Places up down one → length lack ≡ 13 → Lacking lack columns → InRow up down up down one lack lack i 0 columns
+row-none m len l = record { places = m; filled = filled-none len (λ p hp. omega arith); lacks = l }
 
 module _ {up₀ down₀ up down one lack₀ lack : List ℕ} {i k columns : ℕ} (a : InRow up₀ down₀ up down one lack₀ lack i k columns) {up' down' : List ℕ} {j : ℕ} where
   -- a search finds a column where more is to come

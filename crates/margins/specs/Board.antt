@@ -63,10 +63,15 @@ pub record RowsFilled (g g' : Board) (lack lack' : List ℕ) (added : ℕ → �
   pub rows : (p : ℕ) → p < 13 → rowSum g' p ≡ rowSum g p + added p
   pub cols : (q : ℕ) → q < 13 → colSum g' q + getD lack' q 0 ≡ colSum g q + getD lack q 0
 
+-- the columns that lack something
+pub record Lacking (lack : List ℕ) (columns : ℕ) : Type 0 where
+  pub is : (q : ℕ) → q < 13 → on columns q ≡ min (getD lack q 0) 1
+
 -- what the filling of a row by n more needs, and of all rows by what more says
-pub record RowReady (up down lack : List ℕ) (row n : ℕ) : Type 0 where
+pub record RowReady (up down lack : List ℕ) (columns row n : ℕ) : Type 0 where
   pub places : Places up down (replicate 13 0)
   pub lack-len : length lack ≡ 13
+  pub lacks : Lacking lack columns
   pub inside : row < 13
   pub room : Room (start up down) lack row n
 

@@ -2,7 +2,7 @@
 ghost use Prim.Native.Nat.{_*_};
 ghost use lib.ListN.{getD};
 ghost use Rattle.sets.specs.Set.{ind, MemberOf};
-ghost use Rattle.margins.specs.Board.{RowReady, FillReady, FilledBy, StillLacking};
+ghost use Rattle.margins.specs.Board.{Lacking, RowReady, FillReady, FilledBy, StillLacking};
 use crate::search::augment;
 use sets::nonzero;
 use sets::without;
@@ -19,18 +19,27 @@ pub fn still_lacking(columns: u32, column: usize, left: u8) -> u32
     }
 }
 
-// `more` more in `row`, each in a column that lacks one.
-pub fn fill_row(up: &mut [u32; 13], down: &mut [u32; 13], lack: &mut [u8; 13], row: usize, more: u8)
-    requires { ⌜ RowReady (now up) (now down) (now lack) row more ⌝ }
-    ensures { λ _. ⌜ FilledBy (now (up .entry)) (now (down .entry)) (now (lack .entry)) (now (up .exit)) (now (down .exit)) (now (lack .exit)) (λ p. more * ind p row) ⌝ }
+// `more` more in `row`, each in a column that lacks one. Takes the columns that lack something, and returns those that still do.
+pub fn fill_row(
+    up: &mut [u32; 13],
+    down: &mut [u32; 13],
+    lack: &mut [u8; 13],
+    lacking: u32,
+    row: usize,
+    more: u8,
+) -> u32
+    requires { ⌜ RowReady (now up) (now down) (now lack) lacking row more ⌝ }
+    ensures filled { λ _. ⌜ FilledBy (now (up .entry)) (now (down .entry)) (now (lack .entry)) (now (up .exit)) (now (down .exit)) (now (lack .exit)) (λ p. more * ind p row) ⌝ }
+    ensures lacking { λ r. ⌜ Lacking (now (lack .exit)) r ⌝ }
 {
-    let mut columns = nonzero(lack, 0);
+    let mut columns = lacking;
     for k in 0..more {
         let column = augment(up, down, columns, row);
         let left = lack[column] - 1;
         lack[column] = left;
         columns = still_lacking(columns, column, left);
     }
+    columns
 }
 
 // As many more in each row as `more` says, and in each column as many as its `lack` falls by. The last row, that of the totals, comes first.
@@ -38,8 +47,9 @@ pub fn fill(up: &mut [u32; 13], down: &mut [u32; 13], lack: &mut [u8; 13], more:
     requires { ⌜ FillReady (now up) (now down) (now lack) (now more) ⌝ }
     ensures { λ _. ⌜ FilledBy (now (up .entry)) (now (down .entry)) (now (lack .entry)) (now (up .exit)) (now (down .exit)) (now (lack .exit)) (λ p. getD (now (more .entry)) p 0) ⌝ }
 {
+    let mut columns = nonzero(lack, 0);
     for k in 0..13 {
         let row = 12 - k;
-        fill_row(up, down, lack, row, more[row]);
+        columns = fill_row(up, down, lack, columns, row, more[row]);
     }
 }

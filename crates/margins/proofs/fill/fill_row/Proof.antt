@@ -8,27 +8,22 @@ use Rattle.margins.proofs.Fixes.{apart-places}
 use Rattle.margins.proofs.Fills.{InRow, row-none, found, row-step, has-lack, row-all}
 
 abbrev Inv-loop : tie.InvT-loop
-Inv-loop up₀ down₀ lack₀ row more columns₀ k₀ up down lack columns k = (k ≤ more) × InRow up₀ down₀ up down (replicate 13 0) lack₀ lack row k columns
+Inv-loop up₀ down₀ lack₀ lacking row more columns₀ k₀ up down lack columns k = (k ≤ more) × InRow up₀ down₀ up down (replicate 13 0) lack₀ lack row k columns
 
 abbrev μ-loop : tie.MeasureT-loop
-μ-loop up₀ down₀ lack₀ row more columns₀ k₀ up down lack columns k = more - k
-
-nonzero-requires : tie.Need-nonzero-requires Inv-loop μ-loop
-nonzero-requires c κs = omega (arith, c .before .before .pre .lack-len)
+μ-loop up₀ down₀ lack₀ lacking row more columns₀ k₀ up down lack columns k = more - k
 
 loop-holds : tie.Need-loop-holds Inv-loop μ-loop
-loop-holds c =
-    let s = c .before .before .before .pre in
-    (omega arith, row-none (s .places) (s .lack-len) (c .nonzero .ensures))
+loop-holds c = (omega arith, row-none (c .pre .places) (c .pre .lack-len) (c .pre .lacks))
 
 augment-requires : tie.Need-augment-requires Inv-loop μ-loop
 augment-requires c κs =
-    record { apart = apart-places (c .before .before .before .loop .inv .1 .places); inside = c .before .before .before .before .before .before .before .pre .inside }
+    record { apart = apart-places (c .before .before .before .loop .inv .1 .places); inside = c .before .before .before .before .pre .inside }
 
 -- a turn comes to a column
 column : (c : tie.After-augment Inv-loop μ-loop) → c .augment .result < 13
 column c =
-    let s = c .before .before .before .before .before .before .before .before .pre in
+    let s = c .before .before .before .before .before .pre in
     found (c .before .before .before .before .loop .inv .1) (s .inside) (c .before .before .before .loop-test .taken) (s .room) (c .augment .ensures)
 
 element-copy-out-left : tie.Need-element-copy-out-left Inv-loop μ-loop
@@ -53,7 +48,7 @@ loop-again c =
     (search needs, row-step (c .before .before .before .before .before .before .loop .inv .1) h (d .0) (d .1) (c .still-lacking .ensures))
 
 returns : tie.Need-returns Inv-loop μ-loop
-returns c = let a = c .before .loop .inv .1 in record { places = a .places; filled = row-all a (omega arith) }
+returns c = let a = c .before .loop .inv .1 in (record { places = a .places; filled = row-all a (omega arith) }, a .lacks)
 
 pub fill-row-spec : {M : Type 1} → statement M
 fill-row-spec =
@@ -61,7 +56,6 @@ fill-row-spec =
     (tie.spec
     Inv-loop
     μ-loop
-    nonzero-requires
     loop-holds
     augment-requires
     element-copy-out-left
