@@ -10,8 +10,8 @@ use Rattle.base.specs.Lists.{tabulate, sum, least, all, every}
 use Rattle.table.specs.Table.{total, cellPlaces, entryPlaces}
 use Rattle.table.specs.Whole.{down, whole}
 use Rattle.refusals.specs.Due.{noneApplies}
-use Rattle.rounding.specs.Order.{firstOf}
-use Rattle.rounding.specs.Rounding.{isRounding, found, firstRounding}
+use Rattle.rounding.specs.Order.{found, firstOf}
+use Rattle.rounding.specs.Rounding.{isRounding, firstRounding}
 use Rattle.form.specs.Plan.{Weighted, Plan}
 use Rattle.form.specs.Form.{encode, decode}
 use Rattle.form.specs.Examples.{square, withWeight}

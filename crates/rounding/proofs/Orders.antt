@@ -14,40 +14,41 @@ use Rattle.table.specs.Shape.{Shape}
 use Rattle.table.proofs.Sizes.{place-of}
 use Rattle.rounding.specs.Order.{inOrder, arrayOf, Smaller, Before}
 
-pub length-in-order : (r c : ℕ) (n : List ℕ) → length (inOrder r c n) ≡ r * c
-unfolding inOrder
-length-in-order r c n = length-tabulate (r * c) _
-
--- the count at a place of the order
-pub in-order-at : (r c : ℕ) (n : List ℕ) (i : ℕ) → i < r * c → getD (inOrder r c n) i 0 ≡ getD n (nthRow r c i * c + nthColumn r c i) 0
-unfolding inOrder
-in-order-at r c n i h = getD-tabulate (r * c) _ i 0 h
-
--- that of the cell at row p and column q
-module _ {r c p q : ℕ} (hp : p < r) (hq : q < c) where
-  pub at-rank : (n : List ℕ) → getD (inOrder r c n) (rank r c p q) 0 ≡ getD n (p * c + q) 0
-  at-rank n =
-      in-order-at r c n (rank r c p q) (rank-below hp hq)
-      ∙ ap₂ (λ (i j : ℕ). getD n (i * c + j) 0) (rank-row hp hq) (rank-column hp hq)
-
-  array-at : (l : List ℕ) → getD (arrayOf r c l) (p * c + q) 0 ≡ getD l (rank r c p q) 0
-  unfolding arrayOf
-  array-at l =
-      getD-tabulate (r * c) _ (p * c + q) 0 (digits-lt hp hq)
-      ∙ ap₂ (λ (i j : ℕ). getD l (rank r c i j) 0) (digits-div p hq) (digits-mod p hq)
-
--- the two go back and forth
-module _ {r c : ℕ} {g : List ℕ} (s : Shape r c g) where
-  pub array-of-order : (n : List ℕ) → length n ≡ r * c → arrayOf r c (inOrder r c n) ≡ n
-  unfolding arrayOf
-  array-of-order n e = tabulate-getD n (r * c) 0 _ e
-      (λ k h. let p = place-of s h in at-rank (p .row) (p .column) n ∙ ap (λ (i : ℕ). getD n i 0) (p .is))
-
-  pub order-of-array : (l : List ℕ) → length l ≡ r * c → inOrder r c (arrayOf r c l) ≡ l
+module _ {A : Type 0} (z : A) where
+  pub length-in-order : (r c : ℕ) (n : List A) → length (inOrder z r c n) ≡ r * c
   unfolding inOrder
-  order-of-array l e = tabulate-getD l (r * c) 0 _ e
-      (λ i h. array-at (nth-row (s .some-rows) (s .some-columns) i h) (nth-column (s .some-rows) (s .some-columns) i h) l
-      ∙ ap (λ (j : ℕ). getD l j 0) (nth-rank (s .some-rows) (s .some-columns) i h))
+  length-in-order r c n = length-tabulate (r * c) _
+
+  -- the count at a place of the order
+  pub in-order-at : (r c : ℕ) (n : List A) (i : ℕ) → i < r * c → getD (inOrder z r c n) i z ≡ getD n (nthRow r c i * c + nthColumn r c i) z
+  unfolding inOrder
+  in-order-at r c n i h = getD-tabulate (r * c) _ i z h
+
+  -- that of the cell at row p and column q
+  module _ {r c p q : ℕ} (hp : p < r) (hq : q < c) where
+    pub at-rank : (n : List A) → getD (inOrder z r c n) (rank r c p q) z ≡ getD n (p * c + q) z
+    at-rank n =
+        in-order-at r c n (rank r c p q) (rank-below hp hq)
+        ∙ ap₂ (λ (i j : ℕ). getD n (i * c + j) z) (rank-row hp hq) (rank-column hp hq)
+
+    array-at : (l : List A) → getD (arrayOf z r c l) (p * c + q) z ≡ getD l (rank r c p q) z
+    unfolding arrayOf
+    array-at l =
+        getD-tabulate (r * c) _ (p * c + q) z (digits-lt hp hq)
+        ∙ ap₂ (λ (i j : ℕ). getD l (rank r c i j) z) (digits-div p hq) (digits-mod p hq)
+
+  -- the two go back and forth
+  module _ {r c : ℕ} {g : List ℕ} (s : Shape r c g) where
+    pub array-of-order : (n : List A) → length n ≡ r * c → arrayOf z r c (inOrder z r c n) ≡ n
+    unfolding arrayOf
+    array-of-order n e = tabulate-getD n (r * c) z _ e
+        (λ k h. let p = place-of s h in at-rank (p .row) (p .column) n ∙ ap (λ (i : ℕ). getD n i z) (p .is))
+
+    pub order-of-array : (l : List A) → length l ≡ r * c → inOrder z r c (arrayOf z r c l) ≡ l
+    unfolding inOrder
+    order-of-array l e = tabulate-getD l (r * c) z _ e
+        (λ i h. array-at (nth-row (s .some-rows) (s .some-columns) i h) (nth-column (s .some-rows) (s .some-columns) i h) l
+        ∙ ap (λ (j : ℕ). getD l j z) (nth-rank (s .some-rows) (s .some-columns) i h))
 
 -- a place where one list has the smaller count: the counts before it are the same
 pub record Differs (k n : List ℕ) : Type 0 where
@@ -56,7 +57,7 @@ pub record Differs (k n : List ℕ) : Type 0 where
   pub same : (i : ℕ) → i < place → getD k i 0 ≡ getD n i 0
   pub less : getD k place 0 < getD n place 0
 
-pub smaller-at : (k n : List ℕ) → Smaller k n → Differs k n
+pub smaller-at : (k n : List ℕ) → Smaller _<_ k n → Differs k n
 smaller-at [] n b = absurd b
 smaller-at (x ∷ k) [] b = absurd b
 smaller-at (x ∷ k) (y ∷ n) (inl l) = record { place = 0; inside = omega arith; same = λ i h. absurd (omega arith); less = l }
@@ -79,14 +80,14 @@ pub record DiffersAt (r c : ℕ) (k n : List ℕ) : Type 0 where
 
 pub before-at : {r c : ℕ} {g : List ℕ} → Shape r c g → (k n : List ℕ) → Before r c k n → DiffersAt r c k n
 before-at {r} {c} s k n b =
-    let d = smaller-at (inOrder r c k) (inOrder r c n) b in
-    let h : d .place < r * c = omega (arith, d .inside, length-in-order r c n) in
+    let d = smaller-at (inOrder 0 r c k) (inOrder 0 r c n) b in
+    let h : d .place < r * c = omega (arith, d .inside, length-in-order 0 r c n) in
     let is = nth-rank (s .some-rows) (s .some-columns) (d .place) h in
     record {
       row = nthRow r c (d .place);
       column = nthColumn r c (d .place);
       row-inside = nth-row (s .some-rows) (s .some-columns) (d .place) h;
       column-inside = nth-column (s .some-rows) (s .some-columns) (d .place) h;
-      same = λ p q hp hq l. let e = d .same (rank r c p q) (omega arith) in omega (arith, at-rank hp hq k, at-rank hp hq n);
-      less = omega (arith, d .less, in-order-at r c k (d .place) h, in-order-at r c n (d .place) h);
+      same = λ p q hp hq l. let e = d .same (rank r c p q) (omega arith) in omega (arith, at-rank 0 hp hq k, at-rank 0 hp hq n);
+      less = omega (arith, d .less, in-order-at 0 r c k (d .place) h, in-order-at 0 r c n (d .place) h);
     }

@@ -23,8 +23,8 @@ use Rattle.table.proofs.Totals.{total-none}
 use Rattle.grid.proofs.GridSums.{cell-at}
 use Rattle.grid.proofs.GridTests.{entries-grid, grid-entries}
 use Rattle.table.proofs.Roundings.{gap-le, rounds, rounds-low, rounds-high}
-use Rattle.rounding.specs.Rounding.{isRounding, IsFirst, choice, found, firstRounding}
-use Rattle.rounding.specs.Order.{Choice, inOrder, arrayOf, firstOf}
+use Rattle.rounding.specs.Rounding.{isRounding, IsFirst, choice, firstRounding}
+use Rattle.rounding.specs.Order.{Choice, inOrder, arrayOf, found, firstOf}
 use Rattle.rounding.proofs.Firsts.{Within, Ordered, Answer, within-length, answer, found-first}
 use Rattle.rounding.proofs.Orders.{length-in-order, in-order-at, array-of-order, order-of-array}
 
@@ -50,8 +50,8 @@ module _ {r c : ℕ} {g : List ℕ} (s : Shape r c g) (w : ℕ) (n : List ℕ) w
       let at = rounding-grid h p q (omega (arith, s .rows)) (omega (arith, s .columns)) in
       rw (cell-at s p q hp hq, cell-at (shape-of s n (rounding-length h)) p q hp hq) at at
 
-  in-order : isRounding r c w g n ≡ true → (i : ℕ) → i < r * c → roundsTo w (getD (inOrder r c g) i 0) (getD (inOrder r c n) i 0) ≡ true
-  in-order h i l = rw (in-order-at r c g i l, in-order-at r c n i l)
+  in-order : isRounding r c w g n ≡ true → (i : ℕ) → i < r * c → roundsTo w (getD (inOrder 0 r c g) i 0) (getD (inOrder 0 r c n) i 0) ≡ true
+  in-order h i l = rw (in-order-at 0 r c g i l, in-order-at 0 r c n i l)
       (at-cell h (nthRow r c i) (nthColumn r c i) (nth-row (s .some-rows) (s .some-columns) i l) (nth-column (s .some-rows) (s .some-columns) i l))
 
 within-at : (w : ℕ) (g n : List ℕ) → length n ≡ length g → ((k : ℕ) → k < length g → roundsTo w (getD g k 0) (getD n k 0) ≡ true) → Within (map (choice w) g) n
@@ -73,43 +73,46 @@ ordered w (x ∷ g) = (omega arith, ordered w g)
 
 -- the search gives the array that is first of all controlled roundings
 module _ {r c : ℕ} {g : List ℕ} (s : Shape r c g) (w : ℕ) where
-  made-of : (n : List ℕ) → isRounding r c w g n ≡ true → Within (map (choice w) (inOrder r c g)) (inOrder r c n)
-  made-of n h = within-at w (inOrder r c g) (inOrder r c n) (length-in-order r c n ∙ sym (length-in-order r c g))
-      (λ i l. in-order s w n h i (omega (arith, length-in-order r c g)))
+  made-of : (n : List ℕ) → isRounding r c w g n ≡ true → Within (map (choice w) (inOrder 0 r c g)) (inOrder 0 r c n)
+  made-of n h = within-at w (inOrder 0 r c g) (inOrder 0 r c n) (length-in-order 0 r c n ∙ sym (length-in-order 0 r c g))
+      (λ i l. in-order s w n h i (omega (arith, length-in-order 0 r c g)))
 
-  made-length : (l : List ℕ) → Within (map (choice w) (inOrder r c g)) l → length l ≡ r * c
-  made-length l h = within-length (map (choice w) (inOrder r c g)) l h ∙ length-map (inOrder r c g) (choice w) ∙ length-in-order r c g
+  made-length : (l : List ℕ) → Within (map (choice w) (inOrder 0 r c g)) l → length l ≡ r * c
+  made-length l h = within-length (map (choice w) (inOrder 0 r c g)) l h ∙ length-map (inOrder 0 r c g) (choice w) ∙ length-in-order 0 r c g
 
-  pub first-is : (n : List ℕ) → IsFirst r c w g n → firstRounding r c w g ≡ n
-  unfolding firstRounding
-  first-is n f =
-      let back : arrayOf r c (inOrder r c n) ≡ n = array-of-order s n (rounding-length s w n (f .rounding)) in
-      ap (λ (o : Option (List ℕ)). arrayOf r c (found o))
-      (found-first (λ l. isRounding r c w g (arrayOf r c l)) (map (choice w) (inOrder r c g)) (ordered w (inOrder r c g)) (inOrder r c n)
-      (record {
-        passes = rw back (f .rounding);
-        within = made-of n (f .rounding);
-        first = λ l m h b. f .first (arrayOf r c l) h (rw (order-of-array s l (made-length l m)) b);
-      }))
-      ∙ back
+  module _ (n : List ℕ) (f : IsFirst r c w g n) where
+    pub back : arrayOf 0 r c (inOrder 0 r c n) ≡ n
+    back = array-of-order 0 s n (rounding-length s w n (f .rounding))
+
+    pub finds : firstOf (λ l. isRounding r c w g (arrayOf 0 r c l)) (map (choice w) (inOrder 0 r c g)) ≡ some (inOrder 0 r c n)
+    finds = found-first (λ l. isRounding r c w g (arrayOf 0 r c l)) (map (choice w) (inOrder 0 r c g)) (ordered w (inOrder 0 r c g)) (inOrder 0 r c n)
+        (record {
+          passes = rw back (f .rounding);
+          within = made-of n (f .rounding);
+          first = λ l m h b. f .first (arrayOf 0 r c l) h (rw (order-of-array 0 s l (made-length l m)) b);
+        })
+
+    pub first-is : firstRounding r c w g ≡ n
+    unfolding firstRounding
+    first-is = ap (λ (o : Option (List ℕ)). arrayOf 0 r c (found o)) finds ∙ back
 
   -- if there is not none, the search gives the first
   pub not-none-first : (((n : List ℕ) → isRounding r c w g n ≡ true → ⊥) → ⊥) → IsFirst r c w g (firstRounding r c w g)
   unfolding firstRounding
-  not-none-first some-one = go (firstOf test choices) (answer test choices (ordered w (inOrder r c g)))
+  not-none-first some-one = go (firstOf test choices) (answer test choices (ordered w (inOrder 0 r c g)))
     where
-      choices : List Choice
-      choices = map (choice w) (inOrder r c g)
+      choices : List (Choice ℕ)
+      choices = map (choice w) (inOrder 0 r c g)
 
       test : List ℕ → Bool
-      test l = isRounding r c w g (arrayOf r c l)
+      test l = isRounding r c w g (arrayOf 0 r c l)
 
-      passes : (n : List ℕ) → isRounding r c w g n ≡ true → test (inOrder r c n) ≡ true
-      passes n h = rw (array-of-order s n (rounding-length s w n h)) h
+      passes : (n : List ℕ) → isRounding r c w g n ≡ true → test (inOrder 0 r c n) ≡ true
+      passes n h = rw (array-of-order 0 s n (rounding-length s w n h)) h
 
-      go : (u : Option (List ℕ)) → Answer test choices u → IsFirst r c w g (arrayOf r c (found u))
-      go none a = absurd (some-one (λ n h. a (inOrder r c n) (made-of n h) (passes n h)))
+      go : (u : Option (List ℕ)) → Answer test choices u → IsFirst r c w g (arrayOf 0 r c (found u))
+      go none a = absurd (some-one (λ n h. a (inOrder 0 r c n) (made-of n h) (passes n h)))
       go (some l) a = record {
         rounding = a .passes;
-        first = λ k h b. a .first (inOrder r c k) (made-of k h) (passes k h) (rw (order-of-array s l (made-length l (a .within))) at b);
+        first = λ k h b. a .first (inOrder 0 r c k) (made-of k h) (passes k h) (rw (order-of-array 0 s l (made-length l (a .within))) at b);
       }

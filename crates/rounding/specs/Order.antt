@@ -1,4 +1,4 @@
--- The order of arrays, and a search for the first of them (specification, "The rounding"). Assumes nothing.
+-- The order of arrays, and a search for the first of them (specification, "The rounding"), whatever kind of number a count is. Assumes nothing.
 use mathlib.Core.Path.{_≡_}
 use mathlib.Core.Logic.{_⊎_}
 use mathlib.Core.Bool.{Bool, true, false}
@@ -9,41 +9,46 @@ use lib.ListN.{getD}
 use Rattle.base.specs.Lists.{tabulate}
 use Rattle.order.specs.Order.{nthRow, nthColumn, rank}
 
--- the counts of an array of r by c cells, in the order in which cells are compared; and the array that has such counts
-unfoldable pub inOrder : ℕ → ℕ → List ℕ → List ℕ
-inOrder r c n = tabulate (r * c) (λ i. getD n (nthRow r c i * c + nthColumn r c i) 0)
+-- the counts of an array of r by c cells, in the order in which cells are compared, zero where the list has none; and the array that has such counts
+unfoldable pub inOrder : {A : Type 0} → A → ℕ → ℕ → List A → List A
+inOrder zero r c n = tabulate (r * c) (λ i. getD n (nthRow r c i * c + nthColumn r c i) zero)
 
-unfoldable pub arrayOf : ℕ → ℕ → List ℕ → List ℕ
-arrayOf r c l = tabulate (r * c) (λ k. getD l (rank r c (k / c) (k % c)) 0)
+unfoldable pub arrayOf : {A : Type 0} → A → ℕ → ℕ → List A → List A
+arrayOf zero r c l = tabulate (r * c) (λ k. getD l (rank r c (k / c) (k % c)) zero)
 
 -- at the first difference the first list has the smaller count
-abbrev pub Smaller : List ℕ → List ℕ → Type 0
-Smaller [] n = ⊥
-Smaller (x ∷ k) [] = ⊥
-Smaller (x ∷ k) (y ∷ n) = (x < y) ⊎ ((x ≡ y) × Smaller k n)
+abbrev pub Smaller : {A : Type 0} → (A → A → Type 0) → List A → List A → Type 0
+Smaller less [] n = ⊥
+Smaller less (x ∷ k) [] = ⊥
+Smaller less (x ∷ k) (y ∷ n) = less x y ⊎ ((x ≡ y) × Smaller less k n)
 
 -- array k comes before array n: at the first cell, in the order of cells, where they differ, it has the smaller count
 abbrev pub Before : ℕ → ℕ → List ℕ → List ℕ → Type 0
-Before r c k n = Smaller (inOrder r c k) (inOrder r c n)
+Before r c k n = Smaller _<_ (inOrder 0 r c k) (inOrder 0 r c n)
 
 -- two counts to choose from, the smaller first
-pub record Choice : Type 0 where
-  pub low : ℕ
-  pub high : ℕ
+pub record Choice (A : Type 0) : Type 0 where
+  pub low : A
+  pub high : A
 
 -- the low count with what follows it, else the high one
-abbrev pub either : ℕ → ℕ → Option (List ℕ) → Option (List ℕ) → Option (List ℕ)
+abbrev pub either : {A : Type 0} → A → A → Option (List A) → Option (List A) → Option (List A)
 either l h (some n) v = some (l ∷ n)
 either l h none (some n) = some (h ∷ n)
 either l h none none = none
 
 -- the empty list, if it passes
-abbrev pub emptyIf : Bool → Option (List ℕ)
+abbrev pub emptyIf : {A : Type 0} → Bool → Option (List A)
 emptyIf true = some []
 emptyIf false = none
 
+-- the counts that a search found, if any
+abbrev pub found : {A : Type 0} → Option (List A) → List A
+found (some n) = n
+found none = []
+
 -- the first list of all those made of such counts that pass a test: at each place the smaller count is tried first, with all that can follow it
-unfoldable pub firstOf : (List ℕ → Bool) → List Choice → Option (List ℕ)
+unfoldable pub firstOf : {A : Type 0} → (List A → Bool) → List (Choice A) → Option (List A)
 firstOf test [] = emptyIf (test [])
 firstOf test (c ∷ cs) =
     either (c .low) (c .high) (firstOf (λ n. test (c .low ∷ n)) cs) (firstOf (λ n. test (c .high ∷ n)) cs)
