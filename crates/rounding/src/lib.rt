@@ -26,7 +26,7 @@ mod parts;
 pub mod write;
 
 // Writes the first controlled rounding of an accepted table.
-fn write_rounding(t: Table, cells: &[u32], counts: &mut [u16])
+pub fn write_rounding(t: Table, cells: &[u32], counts: &mut [u16])
     requires { ⌜ TableReady (t .rows) (t .columns) (t .denominator) (now cells) (now counts) ⌝ }
     ensures { λ _. ⌜ now (counts .exit) ≡ written (firstRounding (t .rows) (t .columns) (t .denominator) (now (cells .entry))) (now (counts .entry)) ⌝ }
 {

@@ -42,6 +42,10 @@ cases =
     ∷ gives 1 1 65535 (65535000 ∷ []) 0
     ∷ gives 1 1 65535 (65535001 ∷ []) 4
     ∷ gives 1 2 7 (7000 ∷ 7001 ∷ []) 4
+    -- a cell below zero, handed over as its bits: -1, -1000·D and the least of 32 bits
+    ∷ gives 1 1 65535 (4294967295 ∷ []) 4
+    ∷ gives 1 1 65535 (4229432296 ∷ []) 4
+    ∷ gives 1 2 1 (0 ∷ 2147483648 ∷ []) 4
     -- two at once: 1 and 2, 1 and 3, 1 and 4, 2 and 3, 2 and 4, 3 and 4
     ∷ gives 13 1 0 (replicate 13 0) 1
     ∷ gives 1 13 1 (0 ∷ []) 1

@@ -1,0 +1,8 @@
+pub mod Apart
+pub mod Moved
+pub mod Bounds
+pub mod Sheets
+pub mod Counting
+pub mod Rounded
+pub mod Natural
+pub mod Examples

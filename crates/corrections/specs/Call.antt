@@ -1,0 +1,36 @@
+-- The call "rounding of corrections" (specification, "The rounding of corrections"). Assumes nothing.
+use mathlib.Core.Bool.{Bool, not, _&&_}
+use mathlib.Core.List.{List, [], _∷_, _++_}
+use mathlib.Core.Option.{Option}
+use Prim.Native.Nat.{ℕ, _*_}
+use lib.Dec.{ltb}
+use lib.IntN.{ℤ, pos, negℤ}
+use lib.ListN.{length}
+use lib.Signed.{leZ}
+use Rattle.base.specs.Lists.{all}
+use Rattle.refusals.specs.declared.Refusal.{Refusal}
+use Rattle.refusals.specs.declared.Refusal.the-variants.{LargeCell, Buffer}
+use Rattle.refusals.specs.Due.{Test, refuse, due}
+use Rattle.table.specs.Table.{maxExpected}
+use Rattle.table.specs.Check.{sizeTests}
+
+-- a cell is from -1000·D to 1000·D
+abbrev pub cellWithin : ℕ → ℤ → Bool
+cellWithin bound z = leZ (negℤ (pos bound)) z && leZ z (pos bound)
+
+abbrev pub cellsWithin : ℕ → List ℤ → Bool
+cellsWithin d g = all (cellWithin (maxExpected * d)) g
+
+-- the refusals of a table of corrections: 1 to 3 as of every table; 4, a cell below -1000·D or above 1000·D
+abbrev pub tableTests : ℕ → ℕ → ℕ → List ℤ → List Test
+tableTests r c d g = sizeTests r c d (length g) ++ (refuse LargeCell (not (cellsWithin d g)) ∷ [])
+
+unfoldable pub tableRefusal : ℕ → ℕ → ℕ → List ℤ → Option Refusal
+tableRefusal r c d g = due (tableTests r c d g)
+
+-- those of the call, with a buffer of `room` counts: then 7, the buffer is shorter than the array
+abbrev pub roundTests : ℕ → ℕ → ℕ → List ℤ → ℕ → List Test
+roundTests r c d g room = tableTests r c d g ++ (refuse Buffer (ltb room (r * c)) ∷ [])
+
+unfoldable pub roundRefusal : ℕ → ℕ → ℕ → List ℤ → ℕ → Option Refusal
+roundRefusal r c d g room = due (roundTests r c d g room)
