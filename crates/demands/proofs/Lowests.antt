@@ -14,6 +14,7 @@ use Rattle.refusals.specs.declared.Refusal.{Refusal}
 use Rattle.refusals.specs.Due.{Test, refuse, due}
 use Rattle.refusals.proofs.Dues.{due-here, due-next, none-applies}
 use Rattle.rounding.specs.Call.{roundRefusal}
+use Rattle.corrections.specs.Call as corrections
 use Rattle.plan.specs.Call.{planRefusal}
 use Rattle.opening.specs.Open.{openRefusal, drawRefusal}
 use Rattle.parts.specs.Parts.{partRefusal}
@@ -72,9 +73,10 @@ module _ (rank : Refusal → ℕ) where
 
 -- each call by the order that its statement names
 pub each-refuses : EachRefuses
-unfolding rising all zipWith roundRefusal planRefusal openRefusal partRefusal drawRefusal startRefusal campaignRefusal poolRefusal replyRefusal arrayRefusal
+unfolding rising all zipWith roundRefusal corrections.roundRefusal planRefusal openRefusal partRefusal drawRefusal startRefusal campaignRefusal poolRefusal replyRefusal arrayRefusal
 each-refuses = record {
   rounding = λ r c d g room. refuses _ _ refl;
+  corrections = λ r c d g room. refuses _ _ refl;
   plan = λ r c d g room. refuses _ _ refl;
   opening = λ b. refuses _ _ refl;
   parts = λ b need room. refuses _ _ refl;

@@ -4,11 +4,13 @@ use mathlib.Core.Bool.{true}
 use mathlib.Core.List.{List, List·Memᴰ as Member}
 use mathlib.Core.Option.{Option, some, none}
 use Prim.Native.Nat.{ℕ, _≤_}
+use lib.IntN.{ℤ}
 use Rattle.refusals.specs.Numbers.{numberOf}
 use Rattle.refusals.specs.Places.{placeOf, placeOnPlan}
 use Rattle.refusals.specs.declared.Refusal.{Refusal}
 use Rattle.refusals.specs.Due.{Test, refuse, noneApplies}
 use Rattle.rounding.specs.Call.{roundTests, roundRefusal}
+use Rattle.corrections.specs.Call as corrections
 use Rattle.plan.specs.Call.{planTests, planRefusal}
 use Rattle.opening.specs.Open.{openTests, openRefusal, drawTests, drawRefusal}
 use Rattle.parts.specs.Parts.{partTests, partRefusal}
@@ -31,6 +33,7 @@ pub record Refuses (rank : Refusal → ℕ) (l : List Test) (o : Option Refusal)
 -- so of every call, whatever it is lent: the lowest number
 pub record EachRefuses : Type 0 where
   pub rounding : (r c d : ℕ) (g : List ℕ) (room : ℕ) → Refuses numberOf (roundTests r c d g room) (roundRefusal r c d g room)
+  pub corrections : (r c d : ℕ) (g : List ℤ) (room : ℕ) → Refuses numberOf (corrections.roundTests r c d g room) (corrections.roundRefusal r c d g room)
   pub plan : (r c d : ℕ) (g : List ℕ) (room : ℕ) → Refuses numberOf (planTests r c d g room) (planRefusal r c d g room)
   pub opening : (b : List ℕ) → Refuses numberOf (openTests b) (openRefusal b)
   -- the sizes and the table of a plan, which need a number of places

@@ -7,6 +7,8 @@ ghost use Rattle.refusals.specs.Due.{answerOf, after};
 ghost use Rattle.base.specs.Buffers.{written};
 ghost use Rattle.rounding.specs.Rounding.{firstRounding};
 ghost use Rattle.rounding.specs.Call.{roundRefusal};
+ghost use Rattle.corrections.specs.Rounding as corrections;
+ghost use Rattle.corrections.specs.Call as corrections-call;
 ghost use Rattle.plan.specs.Call.{planBytes, planRefusal, planAnswer, plannedNumber, Apart};
 ghost use Rattle.form.specs.Plan.{cellCount};
 ghost use Rattle.form.specs.Form.{decode};
@@ -40,6 +42,23 @@ pub extern "C" fn lufodimi_round(
         (written (firstRounding rows columns denominator (now (cells .entry))) (now (counts .entry))) (now (counts .entry)) ⌝ }
 {
     let answer = rounding::round(rows, columns, denominator, cells, counts);
+    refusals::answer_number(answer)
+}
+
+// Writes the first controlled rounding of a table of corrections, whose cells may be below zero: 0, or the refusal's number.
+#[no_mangle]
+pub extern "C" fn lufodimi_round_signed(
+    rows: u32,
+    columns: u32,
+    denominator: u32,
+    cells: &[i32],
+    counts: &mut [i16],
+) -> u32
+    ensures number { λ n. ⌜ n ≡ answerNumber (answerOf (corrections-call.roundRefusal rows columns denominator (now (cells .entry)) (length (now (counts .entry))))) ⌝ }
+    ensures buffer { λ _. ⌜ now (counts .exit) ≡ after (corrections-call.roundRefusal rows columns denominator (now (cells .entry)) (length (now (counts .entry))))
+        (written (corrections.firstRounding rows columns denominator (now (cells .entry))) (now (counts .entry))) (now (counts .entry)) ⌝ }
+{
+    let answer = corrections::round(rows, columns, denominator, cells, counts);
     refusals::answer_number(answer)
 }
 
