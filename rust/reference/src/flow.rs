@@ -1,12 +1,13 @@
 //! Maximum flow by the preflow-push method, and circulations with lower bounds.
 
-/// An edge of a network with the least and the most that it may carry.
+/// An edge of a network with the least and the most that it may carry. An amount below 0
+/// goes the other way.
 #[derive(Clone, Debug)]
 pub struct Edge {
     pub from: usize,
     pub to: usize,
-    pub least: u64,
-    pub most: u64,
+    pub least: i64,
+    pub most: i64,
 }
 
 /// Whether whole amounts exist that keep every edge within its bounds and let as
@@ -15,20 +16,21 @@ pub struct Edge {
 /// Each edge first carries its least amount. What then enters a node in excess comes
 /// from a new source, what it gives away in excess goes to a new sink; the amounts
 /// exist exactly if a flow within the rest of the bounds fills every edge of the source.
+/// What is left of an edge's bounds, and so every capacity, is 0 or more.
 pub fn circulation_exists(nodes: usize, edges: &[Edge]) -> bool {
     let (source, sink) = (nodes, nodes + 1);
     let mut capacities = vec![vec![0; nodes + 2]; nodes + 2];
-    let mut entering = vec![0; nodes];
-    let mut leaving = vec![0; nodes];
+    let mut in_excess = vec![0; nodes];
     for edge in edges {
-        capacities[edge.from][edge.to] += edge.most - edge.least;
-        entering[edge.to] += edge.least;
-        leaving[edge.from] += edge.least;
+        let left = u64::try_from(edge.most - edge.least);
+        capacities[edge.from][edge.to] += left.expect("the least is not above the most");
+        in_excess[edge.to] += edge.least;
+        in_excess[edge.from] -= edge.least;
     }
     let mut demand = 0;
-    for node in 0..nodes {
-        capacities[source][node] = entering[node].saturating_sub(leaving[node]);
-        capacities[node][sink] = leaving[node].saturating_sub(entering[node]);
+    for (node, excess) in in_excess.into_iter().enumerate() {
+        capacities[source][node] = excess.max(0).unsigned_abs();
+        capacities[node][sink] = excess.min(0).unsigned_abs();
         demand += capacities[source][node];
     }
     maximum_flow(capacities, source, sink) == demand
@@ -155,5 +157,50 @@ mod tests {
         assert!(!circulation_exists(3, &narrow));
         let wide = [edge(0, 1, 2, 5), edge(1, 2, 0, 3), edge(2, 0, 6, 9)];
         assert!(!circulation_exists(3, &wide));
+        let back = [edge(0, 1, -5, -2), edge(1, 2, -3, 0), edge(2, 0, -9, -3)];
+        assert!(circulation_exists(3, &back));
+        let apart = [edge(0, 1, -5, -2), edge(1, 2, -1, 0), edge(2, 0, -9, 9)];
+        assert!(!circulation_exists(3, &apart));
+    }
+
+    /// Whether some amounts within the bounds of these edges balance every node, where
+    /// the edges before them left so much in excess.
+    fn amounts_exist(in_excess: &mut [i64], edges: &[Edge]) -> bool {
+        let Some((edge, others)) = edges.split_first() else {
+            return in_excess.iter().all(|&excess| excess == 0);
+        };
+        (edge.least..=edge.most).any(|amount| {
+            in_excess[edge.to] += amount;
+            in_excess[edge.from] -= amount;
+            let exist = amounts_exist(in_excess, others);
+            in_excess[edge.to] -= amount;
+            in_excess[edge.from] += amount;
+            exist
+        })
+    }
+
+    #[test]
+    fn a_circulation_exists_just_if_some_amounts_balance_every_node() {
+        let mut generator = Generator::new(12);
+        let mut found = [0; 2];
+        for _ in 0..2000 {
+            let nodes = generator.between(2, 4);
+            let edges: Vec<Edge> = (0..generator.between(1, 6))
+                .map(|_| {
+                    let least = generator.below(7) as i64 - 4;
+                    Edge {
+                        from: generator.below(nodes) as usize,
+                        to: generator.below(nodes) as usize,
+                        least,
+                        most: least + generator.below(3) as i64,
+                    }
+                })
+                .collect();
+            let expected = amounts_exist(&mut vec![0; nodes as usize], &edges);
+            let exists = circulation_exists(nodes as usize, &edges);
+            assert_eq!(exists, expected, "{edges:?}");
+            found[usize::from(exists)] += 1;
+        }
+        assert!(found.iter().all(|&times| times > 200), "{found:?}");
     }
 }

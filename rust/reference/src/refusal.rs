@@ -7,7 +7,7 @@ pub enum Refusal {
     Denominator = 2,
     /// Not as many cells as rows times columns.
     CellCount = 3,
-    /// A cell above 1000 times the denominator.
+    /// A cell above 1000 times the denominator; of corrections also one below minus that.
     LargeCell = 4,
     /// A stored plan whose layout, length or head is wrong.
     Layout = 5,

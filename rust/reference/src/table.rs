@@ -1,4 +1,5 @@
 use crate::Refusal;
+use std::iter::Sum;
 use std::ops::RangeInclusive;
 
 /// A table. Cell g, in row order, stands for the expected count g / denominator.
@@ -23,24 +24,17 @@ impl Table {
         denominator: u32,
         cells: &[u32],
     ) -> Result<Table, Refusal> {
-        let (rows, columns) = (u64::from(rows), u64::from(columns));
+        accept_sizes(rows, columns, denominator, cells.len())?;
         let table = Table {
             rows: rows as usize,
             columns: columns as usize,
             denominator: u64::from(denominator),
             cells: cells.iter().map(|&cell| u64::from(cell)).collect(),
         };
-        if !Table::ROWS.contains(&rows) || !Table::COLUMNS.contains(&columns) {
-            Err(Refusal::Size)
-        } else if !Table::DENOMINATORS.contains(&table.denominator) {
-            Err(Refusal::Denominator)
-        } else if table.cells.len() != table.size() {
-            Err(Refusal::CellCount)
-        } else if !table.cells_within_bound() {
-            Err(Refusal::LargeCell)
-        } else {
-            Ok(table)
+        if !table.cells_within_bound() {
+            return Err(Refusal::LargeCell);
         }
+        Ok(table)
     }
 
     /// The number of cells that rows and columns ask for.
@@ -55,14 +49,34 @@ impl Table {
     }
 }
 
+/// The first of the refusals 1 to 3 that applies: what is asked of a table whatever its
+/// cells are.
+pub fn accept_sizes(
+    rows: u32,
+    columns: u32,
+    denominator: u32,
+    cells: usize,
+) -> Result<(), Refusal> {
+    let [rows, columns, denominator] = [rows, columns, denominator].map(u64::from);
+    if !Table::ROWS.contains(&rows) || !Table::COLUMNS.contains(&columns) {
+        Err(Refusal::Size)
+    } else if !Table::DENOMINATORS.contains(&denominator) {
+        Err(Refusal::Denominator)
+    } else if cells as u64 != rows * columns {
+        Err(Refusal::CellCount)
+    } else {
+        Ok(())
+    }
+}
+
 /// Cells, row totals, column totals and grand total, in this order.
-pub fn entries(rows: usize, columns: usize, cells: &[u64]) -> Vec<u64> {
-    let total = |places: Vec<usize>| places.iter().map(|&place| cells[place]).sum::<u64>();
+pub fn entries<N: Copy + Sum>(rows: usize, columns: usize, cells: &[N]) -> Vec<N> {
+    let total = |places: Vec<usize>| places.iter().map(|&place| cells[place]).sum::<N>();
     let row = |row: usize| (0..columns).map(|column| row * columns + column).collect();
     let column = |column: usize| (0..rows).map(|row| row * columns + column).collect();
     let mut all = cells.to_vec();
     all.extend((0..rows).map(row).map(total));
     all.extend((0..columns).map(column).map(total));
-    all.push(cells.iter().sum());
+    all.push(cells.iter().copied().sum());
     all
 }

@@ -7,22 +7,26 @@ pub mod papers;
 mod random;
 
 pub use numbers::Generator;
+pub use random::corrections;
 pub use random::{
     evenly_spread, random_denominator, random_table, random_table_of, random_table_over,
 };
 
 /// A table as a caller hands it over, whether it is accepted or not.
 #[derive(Clone, Debug, PartialEq, Eq)]
-pub struct GivenTable {
+pub struct GivenTable<Cell = u32> {
     pub rows: u32,
     pub columns: u32,
     pub denominator: u32,
-    pub cells: Vec<u32>,
+    pub cells: Vec<Cell>,
 }
 
-impl GivenTable {
+/// A table of corrections, whose cells may be below 0.
+pub type GivenCorrections = GivenTable<i32>;
+
+impl<Cell: Copy> GivenTable<Cell> {
     /// A table by its rows of cells.
-    pub fn by_rows<const COLUMNS: usize>(denominator: u32, rows: &[[u32; COLUMNS]]) -> GivenTable {
+    pub fn by_rows<const COLUMNS: usize>(denominator: u32, rows: &[[Cell; COLUMNS]]) -> Self {
         GivenTable {
             rows: rows.len() as u32,
             columns: COLUMNS as u32,
@@ -32,12 +36,22 @@ impl GivenTable {
     }
 
     /// A table whose cells are all the same.
-    pub fn uniform(rows: u32, columns: u32, denominator: u32, cell: u32) -> GivenTable {
+    pub fn uniform(rows: u32, columns: u32, denominator: u32, cell: Cell) -> Self {
         GivenTable {
             rows,
             columns,
             denominator,
             cells: vec![cell; (rows * columns) as usize],
+        }
+    }
+
+    /// The table with every cell changed so.
+    pub fn map<Other>(&self, change: impl FnMut(Cell) -> Other) -> GivenTable<Other> {
+        GivenTable {
+            rows: self.rows,
+            columns: self.columns,
+            denominator: self.denominator,
+            cells: self.cells.iter().copied().map(change).collect(),
         }
     }
 }

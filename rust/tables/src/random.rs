@@ -1,3 +1,5 @@
+pub mod corrections;
+
 use crate::{Generator, GivenTable};
 
 /// Denominators that are small, extreme, or near a power of two.

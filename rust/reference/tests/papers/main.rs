@@ -4,6 +4,7 @@
 
 mod brute_force;
 mod campaigns;
+mod corrections;
 mod examples;
 mod literal;
 mod reasons;

@@ -39,6 +39,10 @@ pub fn cases() -> Vec<Case> {
         gives(1, 1, 65_535, &[65_535_000], 0),
         gives(1, 1, 65_535, &[65_535_001], 4),
         gives(1, 2, 7, &[7000, 7001], 4),
+        // a cell below zero, handed over as its bits: -1, -1000·D and the least of 32 bits
+        gives(1, 1, 65_535, &[-1_i32 as u32], 4),
+        gives(1, 1, 65_535, &[-65_535_000_i32 as u32], 4),
+        gives(1, 2, 1, &[0, i32::MIN as u32], 4),
         // two at once: 1 and 2, 1 and 3, 1 and 4, 2 and 3, 2 and 4, 3 and 4
         gives(13, 1, 0, &[0; 13], 1),
         gives(1, 13, 1, &[0], 1),

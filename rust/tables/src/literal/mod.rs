@@ -1,10 +1,11 @@
 //! Literal cases of every call: what it is given, what it returns and what it leaves,
 //! typed out by hand from the specification, 01. The proved definitions are held to
 //! the same tables, with the same rows in the same order: `specs/Examples.antt` of
-//! each crate, and for runs `specs/Campaigns.antt` of `demands`.
+//! each crate but `division`, and for runs `specs/Campaigns.antt` of `demands`.
 
 pub mod campaign;
 pub mod check;
+pub mod corrections;
 pub mod draw;
 pub mod examples;
 pub mod open;
@@ -54,7 +55,12 @@ const THREE: &[u16] = &[8; 3];
 const ONE: &[u16] = &[8];
 
 /// A table as it is handed over.
-fn table(rows: u32, columns: u32, denominator: u32, cells: &[u32]) -> GivenTable {
+fn table<Cell: Clone>(
+    rows: u32,
+    columns: u32,
+    denominator: u32,
+    cells: &[Cell],
+) -> GivenTable<Cell> {
     GivenTable {
         rows,
         columns,

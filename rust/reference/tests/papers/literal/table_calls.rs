@@ -1,12 +1,12 @@
 //! Tables: their check, controlled roundings, the calls "rounding", "plan", "reason" and
-//! "pool", and the examples of 01.
+//! "pool", the rounding of corrections, and the examples of 01.
 
 use super::assert_rows;
 use crate::samples::{accepted, planned_arrays, stored_plan};
-use reference::{draw, is_controlled_rounding, number_of, Refusal, Table};
+use reference::{draw, is_controlled_rounding, is_signed_rounding, number_of, Refusal, Table};
 use tables::literal::examples::{self, Row, Said};
 use tables::literal::pool::{self, Buffers, Pool};
-use tables::literal::{check, plan, reason, round};
+use tables::literal::{check, corrections, plan, reason, round};
 use tables::GivenTable;
 
 /// The number that a table's check gives.
@@ -34,6 +34,32 @@ fn calls_of_round() {
     assert_rows(&round::calls(), |row| {
         let (given, mut counts) = (&row.given, row.buffer.clone());
         let answer = reference::round(
+            given.rows,
+            given.columns,
+            given.denominator,
+            &given.cells,
+            &mut counts,
+        );
+        (
+            (number_of(answer), counts),
+            (row.number, row.result.clone()),
+        )
+    });
+}
+
+#[test]
+fn candidates_round_corrections_or_not() {
+    assert_rows(corrections::CANDIDATES, |row| {
+        let rounds = is_signed_rounding(2, 3, 10, &corrections::SHEET, row.counts);
+        (rounds, row.rounds)
+    });
+}
+
+#[test]
+fn calls_of_round_signed() {
+    assert_rows(&corrections::calls(), |row| {
+        let (given, mut counts) = (&row.given, row.buffer.clone());
+        let answer = reference::round_signed(
             given.rows,
             given.columns,
             given.denominator,
