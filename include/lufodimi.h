@@ -5,6 +5,9 @@
  * run from 0 to the denominator minus 1, and each belongs to one array. The chances of a plan hold only if the draw number is drawn
  * evenly at random, in a campaign evenly among the numbers that are not taken yet in this round; the caller makes the random numbers.
  *
+ * A correction sheet is a table whose cells may be negative. Only lufodimi_round_signed takes one; it has no plan. In every other call a
+ * negative cell, handed over as its bits, is above every bound and refused (4).
+ *
  * Every call checks what it is lent. It returns LUFODIMI_DONE, and lufodimi_plan the plan's length, or the number of the first refusal
  * that applies, in the order of their numbers, but 11, 12 and 14 before 7, and 13 before 10. A refusal changes no buffer.
  *
@@ -63,7 +66,7 @@ enum lufodimi_answer {
     LUFODIMI_SIZE = 1,         /* rows or columns not from 1 to 12 */
     LUFODIMI_DENOMINATOR = 2,  /* denominator not from 1 to 65,535 */
     LUFODIMI_CELL_COUNT = 3,   /* the cells are not rows times columns many */
-    LUFODIMI_LARGE_CELL = 4,   /* a cell above 1000 times the denominator */
+    LUFODIMI_LARGE_CELL = 4,   /* a cell above 1000 times the denominator, or a correction below -1000 times it */
     LUFODIMI_LAYOUT = 5,       /* the stored plan's form, zero field, rows, columns, arrays, denominator, an offset or the length wrong */
     LUFODIMI_CONTENT = 6,      /* another condition of opening unmet: a cell, a weight or a count, or what they add up to */
     LUFODIMI_BUFFER = 7,       /* a lent buffer shorter than its result or record */
@@ -101,6 +104,15 @@ struct lufodimi_record {
 uint32_t lufodimi_round(uint32_t rows, uint32_t columns, uint32_t denominator,
                         const uint32_t *cells, size_t cells_length,
                         uint16_t *counts, size_t counts_length);
+
+/* Writes the first controlled rounding of a correction sheet, whose cells are from -1000 to 1000 times the denominator: rows times
+ * columns counts, which may be negative, in row order. Each cell, row total, column total and the grand total is rounded down or up, and
+ * a whole one stays. Down is towards minus infinity: -1 over 2 lies between -1 and 0. First is the one with the smaller count at the first
+ * cell where two differ, so that -1 goes before 0. Where no cell is negative, the counts are those of lufodimi_round. Refusals 1, 2, 3, 4,
+ * 7. */
+uint32_t lufodimi_round_signed(uint32_t rows, uint32_t columns, uint32_t denominator,
+                               const int32_t *cells, size_t cells_length,
+                               int16_t *counts, size_t counts_length);
 
 /* Pools two tables of the same rows and columns: writes the least common multiple of their denominators, one number, and the cells over
  * it, rows times columns numbers, in row order, each exactly the sum of the two expected counts. Refusals 1, 2, 3, 4, 11, 12, 7, in this

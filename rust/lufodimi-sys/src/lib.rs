@@ -39,6 +39,7 @@ mod plan;
 mod pool;
 mod reason;
 mod round;
+mod round_signed;
 mod variances;
 
 pub use campaign::{campaign_draw, lufodimi_campaign_draw, lufodimi_record, lufodimi_start, start};
@@ -52,4 +53,5 @@ pub use reason::{
     LUFODIMI_DOWN, LUFODIMI_GRAND_TOTAL, LUFODIMI_ROW_TOTAL, LUFODIMI_UP,
 };
 pub use round::{lufodimi_round, round};
+pub use round_signed::{lufodimi_round_signed, round_signed};
 pub use variances::{lufodimi_variances, variances};
