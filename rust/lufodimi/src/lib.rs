@@ -7,16 +7,19 @@ extern crate alloc;
 
 mod array;
 mod campaign;
+mod corrections;
 mod covariances;
 mod plan;
 mod reason;
 mod record;
 mod refusal;
+mod rounding;
 mod table;
 mod variances;
 
 pub use array::{Array, Arrays};
 pub use campaign::{Campaign, Remaining};
+pub use corrections::Corrections;
 pub use covariances::Covariances;
 pub use plan::Plan;
 pub use reason::{Entry, Reason};

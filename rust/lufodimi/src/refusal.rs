@@ -25,7 +25,7 @@ pub enum Refusal {
     Denominator = 2,
     /// Not as many cells as rows times columns.
     CellCount = 3,
-    /// A cell above 1000 times the denominator.
+    /// A cell above 1000 times the denominator, or one of corrections below -1000 times it.
     LargeCell = 4,
     /// A stored plan whose form, zero field, sizes, offsets or length are wrong.
     Layout = 5,
@@ -102,7 +102,9 @@ impl Display for Refusal {
             }
             Refusal::Denominator => "the denominator is not from 1 to 65,535",
             Refusal::CellCount => "the cells are not as many as rows times columns",
-            Refusal::LargeCell => "a cell is above 1000 times the denominator",
+            Refusal::LargeCell => {
+                "a cell is not from 0 to 1000 times the denominator, or a correction not from -1000 to 1000 times it"
+            }
             Refusal::Layout => "the bytes are not laid out as a stored plan",
             Refusal::Content => "the stored plan does not meet the conditions of opening",
             Refusal::Buffer => "a buffer is shorter than its result or record",

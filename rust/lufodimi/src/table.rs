@@ -1,5 +1,5 @@
 use crate::refusal::accepted;
-use crate::{Reason, Refusal};
+use crate::{rounding, Reason, Refusal};
 use alloc::vec;
 use alloc::vec::Vec;
 
@@ -22,9 +22,6 @@ pub struct Table {
     denominator: u32,
     cells: Vec<u32>,
 }
-
-/// The most cells of a table.
-const MOST_CELLS: usize = (Table::MAX_ROWS * Table::MAX_COLUMNS) as usize;
 
 impl Table {
     /// The most rows.
@@ -80,7 +77,7 @@ impl Table {
             denominator,
             cells: cells.into(),
         };
-        table.rounded(&mut [0; MOST_CELLS])?;
+        rounding::check(|counts| table.rounded(counts))?;
         Ok(table)
     }
 
@@ -143,12 +140,7 @@ impl Table {
     /// # Ok::<(), lufodimi::Refusal>(())
     /// ```
     pub fn round(&self) -> Vec<u16> {
-        let mut counts = vec![0; self.cells.len()];
-        // The table was accepted and there is a count for each cell: that no refusal
-        // applies then is proved of the library.
-        self.rounded(&mut counts)
-            .expect("an accepted table has a controlled rounding");
-        counts
+        rounding::counts(self.cells.len(), |counts| self.rounded(counts))
     }
 
     /// The pooled table of this one and another of the same rows and columns. Its
@@ -229,14 +221,14 @@ impl Table {
         Ok(Reason::of(reply))
     }
 
-    /// Writes the first controlled rounding.
-    fn rounded(&self, counts: &mut [u16]) -> Result<(), Refusal> {
-        accepted(lufodimi_sys::round(
+    /// Writes the first controlled rounding. Returns 0 or the refusal.
+    fn rounded(&self, counts: &mut [u16]) -> u32 {
+        lufodimi_sys::round(
             self.rows,
             self.columns,
             self.denominator,
             &self.cells,
             counts,
-        ))
+        )
     }
 }
