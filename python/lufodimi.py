@@ -1,4 +1,4 @@
-"""Controlled selection over the proved library: tables, plans, the reasons of their weights, draws, campaigns and variances.
+"""Controlled selection over the proved library: tables, corrections, plans, the reasons of their weights, draws, campaigns and variances.
 
     stored = lufodimi.plan(2, 2, 10, [3, 4, 5, 6])      # rows, columns, denominator, cells in row order; bytes to keep
     campaign = lufodimi.Campaign(lufodimi.Plan(stored))
@@ -21,7 +21,7 @@ import os
 import pathlib
 import secrets
 import struct
-from ctypes import POINTER, c_char_p, c_int64, c_size_t, c_uint8, c_uint16, c_uint32, c_uint64
+from ctypes import POINTER, c_char_p, c_int16, c_int32, c_int64, c_size_t, c_uint8, c_uint16, c_uint32, c_uint64
 from typing import Iterable, NamedTuple
 
 LONGEST_PLAN, SHORTEST_PLAN, MOST_CELLS, MOST_ROUNDS = 50_912, 30, 144, 1_000
@@ -33,7 +33,7 @@ SENTENCES = {
     1: "The table has not from 1 to 12 rows and from 1 to 12 columns.",
     2: "The denominator is not from 1 to 65,535.",
     3: "The cells are not as many as rows times columns.",
-    4: "A cell is above 1000 times the denominator.",
+    4: "A cell is not from 0 to 1000 times the denominator, or a correction not from -1000 to 1000 times it.",
     5: "The bytes are not laid out as a stored plan.",
     6: "The stored plan does not meet the conditions of opening.",
     7: "A buffer is shorter than its result or record.",
@@ -73,6 +73,7 @@ except OSError as error:
 _words, _counts, _plan = [POINTER(c_uint32), c_size_t], [POINTER(c_uint16), c_size_t], [c_char_p, c_size_t]
 _table, _record = [c_uint32] * 3 + _words, [POINTER(_Record), POINTER(c_uint8), c_size_t, POINTER(c_uint64), c_size_t]
 _library.lufodimi_round.argtypes = _table + _counts
+_library.lufodimi_round_signed.argtypes = [c_uint32] * 3 + [POINTER(c_int32), c_size_t, POINTER(c_int16), c_size_t]
 _library.lufodimi_pool.argtypes = _table + [c_uint32] + _words * 3
 _library.lufodimi_plan.argtypes = _table + _plan
 _library.lufodimi_reason.argtypes = _table + [c_uint32] + _words
@@ -92,22 +93,32 @@ def _call(name: str, *lent) -> int:
     return answer
 
 
-def _word(value: int) -> int:
-    """The value, if 32 bits hold it; ctypes would cut it off and say nothing."""
-    if not 0 <= operator.index(value) < 2**32:
-        raise OverflowError(f"{value} is not from 0 to 4,294,967,295")
+def _word(value: int, least: int = 0, most: int = 2**32 - 1) -> int:
+    """The value, if it is from the least to the most; ctypes would cut it off and say nothing."""
+    if not least <= operator.index(value) <= most:
+        raise OverflowError(f"{value} is not from {least:,} to {most:,}")
     return operator.index(value)
 
 
-def _lent_table(rows: int, columns: int, denominator: int, cells: Iterable[int]) -> tuple:
-    words = [_word(cell) for cell in cells]
-    return _word(rows), _word(columns), _word(denominator), (c_uint32 * len(words))(*words), len(words)
+def _lent_table(rows: int, columns: int, denominator: int, cells: Iterable[int], signed: bool = False) -> tuple:
+    """A table as the library takes it. Where its cells have no sign, a negative one goes over as its bits, which the library refuses (4)."""
+    held, most = (c_int32, 2**31 - 1) if signed else (c_uint32, 2**32 - 1)
+    words = [_word(cell, -(2**31), most) for cell in cells]
+    return _word(rows), _word(columns), _word(denominator), (held * len(words))(*words), len(words)
 
 
 def round_table(rows: int, columns: int, denominator: int, cells: Iterable[int]) -> list[int]:
     """The first controlled rounding of a table. Refusals 1, 2, 3, 4."""
     counts = (c_uint16 * MOST_CELLS)()
     _call("round", *_lent_table(rows, columns, denominator, cells), counts, MOST_CELLS)
+    return counts[: rows * columns]
+
+
+def round_corrections(rows: int, columns: int, denominator: int, cells: Iterable[int]) -> list[int]:
+    """The first controlled rounding of a correction sheet, whose cells, and so the counts, may be negative: every cell and total is rounded down or up, down
+    being towards minus infinity, and a whole one stays. Where no cell is negative it is that of `round_table`. Refusals 1, 2, 3, 4."""
+    counts = (c_int16 * MOST_CELLS)()
+    _call("round_signed", *_lent_table(rows, columns, denominator, cells, signed=True), counts, MOST_CELLS)
     return counts[: rows * columns]
 
 

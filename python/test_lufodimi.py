@@ -15,6 +15,9 @@ ARRAYS = [[0, 0, 0, 1]] * 2 + [[0, 0, 1, 1]] + [[0, 1, 1, 0]] * 4 + [[1, 0, 0, 1
 STANDING = [45, 23, 0, 12, 31, 26, 4, 19, 0, 14, 52, 14]
 LIST = [0, 0, 0, 0, 0, 0, 0, 3, 0, 2, 0, 0]
 POOLED = [90, 46, 0, 24, 62, 52, 8, 53, 0, 38, 104, 28]
+# A correction sheet of three shelf zones by four kinds, in quarters of a carton, and its rounding.
+SHEET = [-6, 1, 0, -3, 2, -3, -2, 4, 0, -5, -10, 1]
+BOOKED = [-2, 0, 0, 0, 1, -1, -1, 1, 0, -1, -2, 0]
 # Two rows and three columns over 10, in whose plan every kind of entry sets a weight.
 EVERY_KIND = [22, 1, 0, 14, 16, 6]
 
@@ -34,6 +37,59 @@ class Tests(unittest.TestCase):
         self.assertEqual(lufodimi.round_table(2, 2, 2, [1, 1, 1, 1]), [0, 1, 1, 0])
         self.assertEqual(lufodimi.round_table(1, 2, 4, (4, 6)), [1, 1])
         self.assertEqual(lufodimi.round_table(12, 12, 1, range(144)), list(range(144)))
+
+    def test_corrections(self):
+        self.assertEqual(lufodimi.round_corrections(1, 1, 2, [-1]), [-1])
+        self.assertEqual(lufodimi.round_corrections(1, 2, 4, (-4, -6)), [-1, -2])
+        self.assertEqual(lufodimi.round_corrections(1, 2, 2, [-1, -1]), [-1, 0])
+        self.assertEqual(lufodimi.round_corrections(2, 2, 10, [-3, 4, 5, -6]), [-1, 1, 1, -1])
+        self.assertEqual(lufodimi.round_corrections(3, 4, 4, iter(SHEET)), BOOKED)
+        self.assertEqual(lufodimi.round_corrections(12, 12, 1, range(-72, 72)), list(range(-72, 72)))
+        self.assertEqual(lufodimi.round_corrections(1, 2, 65_535, [-65_535_000, 65_535_000]), [-1_000, 1_000])
+        self.assertEqual(lufodimi.round_corrections(1, 2, 65_535, [-65_534_999, 65_534_999]), [-1_000, 1_000])
+
+    def test_corrections_are_rounded_down_or_up(self):
+        def entries(cells):
+            rows = [sum(cells[start : start + 4]) for start in range(0, 12, 4)]
+            return [*cells, *rows, *(sum(cells[start::4]) for start in range(4)), sum(cells)]
+
+        for denominator in (1, 2, 3, 4, 7, 10):
+            counts = lufodimi.round_corrections(3, 4, denominator, SHEET)
+            for entry, count in zip(entries(SHEET), entries(counts)):
+                self.assertIn(count, (entry // denominator, -(-entry // denominator)))
+
+    def test_corrections_without_negative_cells(self):
+        for rows, columns, denominator, cells in (
+            (2, 2, 2, [1, 1, 1, 1]),
+            (2, 2, 10, CELLS),
+            (3, 4, 10, STANDING),
+            (12, 12, 65_535, [place * 455_455 % 65_535_001 for place in range(144)]),
+            (12, 12, 65_535, [65_535_000] * 144),
+        ):
+            words = rows, columns, denominator, cells
+            self.assertEqual(lufodimi.round_corrections(*words), lufodimi.round_table(*words))
+
+    def test_refusals_of_corrections(self):
+        call = lufodimi.round_corrections
+        self.refused(1, call, 0, 2, 10, SHEET)
+        self.refused(1, call, 2, 13, 0, [])
+        self.refused(1, call, 2**32 - 1, 2**32 - 1, 10, CELLS)
+        self.refused(2, call, 2, 2, 0, CELLS)
+        self.refused(2, call, 2, 2, 65_536, [])
+        self.refused(3, call, 2, 2, 10, [])
+        self.refused(3, call, 2, 2, 10, [-10_001, 4, 5, 6, 7])
+        for cell in (-10_001, 10_001, -(2**31), 2**31 - 1):
+            self.refused(4, call, 2, 2, 10, [-3, 4, cell, 6])
+        self.refused(4, call, 1, 1, 65_535, [-65_535_001])
+        self.refused(4, call, 1, 1, 65_535, [65_535_001])
+
+    def test_negative_cells_in_other_calls(self):
+        for cell in (-1, -65_535_000, -(2**31), 2**32 - 1, 2**32 - 65_535_000, 2**31):
+            table = 65_535, [3, 4, 5, cell]
+            self.refused(4, lufodimi.round_table, 2, 2, *table)
+            self.refused(4, lufodimi.plan, 2, 2, *table)
+            self.refused(4, lufodimi.reason, 2, 2, *table, 1)
+            self.refused_pool(4, 2, 2, table, (10, CELLS))
 
     def test_pooling(self):
         self.assertEqual(lufodimi.pool(3, 4, 10, STANDING, 4, LIST), (20, POOLED))
@@ -346,24 +402,44 @@ class Tests(unittest.TestCase):
                 self.assertRaises(OverflowError, call, word, 2, 10, CELLS)
                 self.assertRaises(OverflowError, call, 2, word, 10, CELLS)
                 self.assertRaises(OverflowError, call, 2, 2, word, CELLS)
-                self.assertRaises(OverflowError, call, 2, 2, 10, [3, 4, word, 6])
             self.assertRaises(OverflowError, lufodimi.pool, word, 2, 10, CELLS, 10, CELLS)
             self.assertRaises(OverflowError, lufodimi.pool, 2, word, 10, CELLS, 10, CELLS)
             self.assertRaises(OverflowError, lufodimi.pool, 2, 2, word, CELLS, 10, CELLS)
-            self.assertRaises(OverflowError, lufodimi.pool, 2, 2, 10, [3, 4, word, 6], 10, CELLS)
             self.assertRaises(OverflowError, lufodimi.pool, 2, 2, 10, CELLS, word, CELLS)
-            self.assertRaises(OverflowError, lufodimi.pool, 2, 2, 10, CELLS, 10, [3, 4, word, 6])
             self.assertRaises(OverflowError, lufodimi.reason, word, 2, 10, CELLS, 1)
-            self.assertRaises(OverflowError, lufodimi.reason, 2, 2, 10, [3, 4, word, 6], 1)
             self.assertRaises(OverflowError, lufodimi.reason, 2, 2, 10, CELLS, word)
             self.assertRaises(OverflowError, plan.array, word)
             self.assertRaises(OverflowError, plan.draw, word)
             self.assertRaises(OverflowError, run.draw, word)
         self.assertEqual(run.free, list(range(10)))
 
+    def test_cells_out_of_range(self):
+        for cell in (2**32, 2**32 + 2, 2**64 + 2, -(2**31) - 1, -(2**63)):
+            cells = [3, 4, cell, 6]
+            self.assertRaises(OverflowError, lufodimi.round_table, 2, 2, 10, cells)
+            self.assertRaises(OverflowError, lufodimi.plan, 2, 2, 10, cells)
+            self.assertRaises(OverflowError, lufodimi.pool, 2, 2, 10, cells, 10, CELLS)
+            self.assertRaises(OverflowError, lufodimi.pool, 2, 2, 10, CELLS, 10, cells)
+            self.assertRaises(OverflowError, lufodimi.reason, 2, 2, 10, cells, 1)
+
+    def test_corrections_out_of_range(self):
+        for word in (-1, 2**32, 2**64 + 2):
+            self.assertRaises(OverflowError, lufodimi.round_corrections, word, 2, 10, CELLS)
+            self.assertRaises(OverflowError, lufodimi.round_corrections, 2, word, 10, CELLS)
+            self.assertRaises(OverflowError, lufodimi.round_corrections, 2, 2, word, CELLS)
+        for cell in (2**31, 2**32 - 1, 2**32 + 2, 2**64 + 2, -(2**31) - 1, -(2**32), -(2**63)):
+            self.assertRaises(OverflowError, lufodimi.round_corrections, 2, 2, 10, [3, 4, cell, 6])
+        with self.assertRaises(OverflowError) as caught:
+            lufodimi.round_corrections(1, 1, 10, [2**31])
+        self.assertEqual(str(caught.exception), "2147483648 is not from -2,147,483,648 to 2,147,483,647")
+        with self.assertRaises(OverflowError) as caught:
+            lufodimi.round_table(-1, 1, 10, [1])
+        self.assertEqual(str(caught.exception), "-1 is not from 0 to 4,294,967,295")
+
     def test_other_types(self):
         self.assertRaises(TypeError, lufodimi.plan, 2, 2, 10.0, CELLS)
         self.assertRaises(TypeError, lufodimi.plan, 2, 2, 10, [3, 4, 5, "6"])
+        self.assertRaises(TypeError, lufodimi.round_corrections, 2, 2, 10, [3, 4, -5.0, 6])
         self.assertRaises(TypeError, lufodimi.pool, 2, 2, 10, CELLS, 10.0, CELLS)
         self.assertRaises(TypeError, lufodimi.reason, 2, 2, 10, CELLS, 1.0)
         self.assertRaises(TypeError, lufodimi.Plan(lufodimi.plan(2, 2, 10, CELLS)).array, 1.0)
