@@ -25,9 +25,21 @@ impl Item for u16 {
     }
 }
 
+impl Item for i16 {
+    fn from_bits(bits: u64) -> i16 {
+        bits as i16
+    }
+}
+
 impl Item for u32 {
     fn from_bits(bits: u64) -> u32 {
         bits as u32
+    }
+}
+
+impl Item for i32 {
+    fn from_bits(bits: u64) -> i32 {
+        bits as i32
     }
 }
 
@@ -65,6 +77,14 @@ impl<T: Item> Buffer<T> {
         let mut buffer = self.clone();
         buffer.lent_mut().copy_from_slice(items);
         buffer
+    }
+
+    /// The same buffer with every item changed so, those after the lent ones too.
+    pub fn map<Other>(&self, change: impl FnMut(T) -> Other) -> Buffer<Other> {
+        Buffer {
+            lent: self.lent,
+            items: self.items.iter().copied().map(change).collect(),
+        }
     }
 
     pub fn lent(&self) -> &[T] {

@@ -4,6 +4,7 @@
 //! begins with NAME, or the one case with this seed. It ends at the first difference.
 
 mod campaign;
+mod corrections;
 mod draw;
 mod open;
 mod parts;
@@ -22,6 +23,7 @@ use tables::Generator;
 /// The kinds of cases and the named cases of each call.
 const CALLS: &[(&[Kind], &[Named])] = &[
     (round::KINDS, round::NAMED),
+    (corrections::KINDS, corrections::NAMED),
     (pool::KINDS, pool::NAMED),
     (plan::KINDS, plan::NAMED),
     (reason::KINDS, reason::NAMED),

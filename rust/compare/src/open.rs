@@ -85,6 +85,10 @@ pub const NAMED: &[Named] = &[
         compare: |calls| stated(calls, papers::grand_total_not_kept(), 6),
     },
     Named {
+        name: "open-negative-cells",
+        compare: negative_cells,
+    },
+    Named {
         name: "open-literal",
         compare: literal::plans,
     },
@@ -280,6 +284,22 @@ fn weights_one_short(calls: &mut Calls) -> Result<(), Difference> {
     plan.arrays[2].weight -= 1;
     stated_bytes(calls, &encode(&plan), 6)?;
     stated(calls, papers::weights_one_short(), 6)
+}
+
+/// One cell of -1 over 1 and over 2, with arrays that would make plans if cells and counts
+/// had signs.
+fn negative_cells(calls: &mut Calls) -> Result<(), Difference> {
+    let [cell, count] = [-1_i32 as u32 as u64, -1_i16 as u16 as u64];
+    for arrays in [vec![(1, [count])], vec![(1, [count]), (1, [0])]] {
+        let table = Table {
+            rows: 1,
+            columns: 1,
+            denominator: arrays.len() as u64,
+            cells: vec![cell],
+        };
+        stated_bytes(calls, &encode(&Plan::new(table, arrays)), 6)?;
+    }
+    Ok(())
 }
 
 /// The plan of document 002's table, as samples that have equal chances and recur.

@@ -1,6 +1,6 @@
 //! Pairs of tables of one size, to be pooled.
 
-use crate::lent_tables::turned_back;
+use crate::lent_tables::{turned_back, with_negative_cell};
 use reference::least_common_multiple;
 use tables::{random_denominator, random_table_over, Generator, GivenPair, GivenPart, GivenTable};
 
@@ -53,15 +53,7 @@ pub fn accepted_and_refused(generator: &mut Generator, largest: u32) -> [GivenPa
 
 /// The pair with every combination of changes to its size and to each of its tables.
 pub fn pairs_turned_back(generator: &mut Generator, pair: &GivenPair) -> Vec<GivenPair> {
-    let [firsts, seconds] = [&pair.first, &pair.second].map(|part| {
-        let table = GivenTable {
-            rows: pair.rows,
-            columns: pair.columns,
-            denominator: part.denominator,
-            cells: part.cells.clone(),
-        };
-        turned_back(generator, &table)
-    });
+    let [firsts, seconds] = tables_of(pair).map(|table| turned_back(generator, &table));
     let mut pairs = Vec::new();
     // tables of one size stand side by side
     for (firsts, seconds) in firsts.chunk_by(same_size).zip(seconds.chunk_by(same_size)) {
@@ -70,6 +62,27 @@ pub fn pairs_turned_back(generator: &mut Generator, pair: &GivenPair) -> Vec<Giv
         }
     }
     pairs
+}
+
+/// The pair with a cell below 0 in its first table, in its second and in both.
+pub fn with_negative_cells(generator: &mut Generator, pair: &GivenPair) -> [GivenPair; 3] {
+    let [first, second] = tables_of(pair);
+    let below = [&first, &second].map(|table| with_negative_cell(generator, table));
+    [
+        paired(&below[0], &second),
+        paired(&first, &below[1]),
+        paired(&below[0], &below[1]),
+    ]
+}
+
+/// The two tables of a pair.
+fn tables_of(pair: &GivenPair) -> [GivenTable; 2] {
+    [&pair.first, &pair.second].map(|part| GivenTable {
+        rows: pair.rows,
+        columns: pair.columns,
+        denominator: part.denominator,
+        cells: part.cells.clone(),
+    })
 }
 
 fn same_size(one: &GivenTable, other: &GivenTable) -> bool {

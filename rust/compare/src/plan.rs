@@ -4,7 +4,7 @@ mod literal;
 
 use compare::buffer::{enough, lengths_around, Buffer};
 use compare::cases::{require, Call, Calls, Difference, Kind, Named};
-use compare::lent_tables::{turned_back, LentTable};
+use compare::lent_tables::{turned_back, with_negative_cell, LentTable};
 use compare::plans::{plan_of, stated_plan};
 use reference::{encode, Refusal};
 use tables::papers::{self, Example};
@@ -35,6 +35,11 @@ pub const KINDS: &[Kind] = &[
         name: "plan-refusals",
         cases: 200,
         compare: refusals,
+    },
+    Kind {
+        name: "plan-negative-cells",
+        cases: 500,
+        compare: negative_cells,
     },
 ];
 
@@ -184,6 +189,16 @@ fn refusals(generator: &mut Generator, calls: &mut Calls) -> Result<(), Differen
         for room in lengths_around(generator, needed) {
             calls.compare(&Planning::of(generator, &table, room))?;
         }
+    }
+    Ok(())
+}
+
+/// A cell below 0, with room for every plan and with none: 4.
+fn negative_cells(generator: &mut Generator, calls: &mut Calls) -> Result<(), Difference> {
+    let accepted = random_table(generator, 12);
+    let table = with_negative_cell(generator, &accepted);
+    for room in [50_912, 0] {
+        calls.compare_stated(&Planning::of(generator, &table, room), 4)?;
     }
     Ok(())
 }

@@ -4,6 +4,7 @@ mod literal;
 
 use compare::buffer::{lengths_around, Buffer};
 use compare::cases::{require, Call, Calls, Difference, Kind, Named};
+use compare::pairs::with_negative_cells;
 use compare::pairs::{accepted_and_refused, pairs_turned_back, random_pair};
 use lufodimi_sys::LUFODIMI_LONGEST_PLAN;
 use reference::{entries, number_of, open, Plan};
@@ -19,6 +20,11 @@ pub const KINDS: &[Kind] = &[
         name: "pool-refusals",
         cases: 8,
         compare: refusals,
+    },
+    Kind {
+        name: "pool-negative-cells",
+        cases: 500,
+        compare: negative_cells,
     },
     Kind {
         name: "pool-planned",
@@ -131,6 +137,18 @@ fn refusals(generator: &mut Generator, calls: &mut Calls) -> Result<(), Differen
             for room in [[1, needed], [0, needed], [1, needed - 1], [0, 0]] {
                 calls.compare(&Pooling::of(generator, &changed, room))?;
             }
+        }
+    }
+    Ok(())
+}
+
+/// Cells below 0 in one of the tables or in both, with buffers that are long enough and
+/// with none: 4.
+fn negative_cells(generator: &mut Generator, calls: &mut Calls) -> Result<(), Difference> {
+    let pair = random_pair(generator, 12);
+    for changed in with_negative_cells(generator, &pair) {
+        for room in [[1, changed.first.cells.len()], [0, 0]] {
+            calls.compare_stated(&Pooling::of(generator, &changed, room), 4)?;
         }
     }
     Ok(())

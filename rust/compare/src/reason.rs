@@ -4,7 +4,7 @@ mod literal;
 
 use compare::buffer::Buffer;
 use compare::cases::{require, Call, Calls, Difference, Kind, Named};
-use compare::lent_tables::{turned_back, LentTable};
+use compare::lent_tables::{turned_back, with_negative_cell, LentTable};
 use compare::plans::plan_of;
 use reference::{number_of, Plan};
 use std::collections::BTreeSet;
@@ -46,6 +46,11 @@ pub const KINDS: &[Kind] = &[
         name: "reason-refusals",
         cases: 40,
         compare: refusals,
+    },
+    Kind {
+        name: "reason-negative-cells",
+        cases: 500,
+        compare: negative_cells,
     },
 ];
 
@@ -233,6 +238,19 @@ fn refusals(generator: &mut Generator, calls: &mut Calls) -> Result<(), Differen
             for room in 0..REPLY + 2 {
                 calls.compare(&Asking::of(generator, &table, array, room))?;
             }
+        }
+    }
+    Ok(())
+}
+
+/// A cell below 0, with arrays that a plan can have and cannot, and with buffers of all
+/// lengths: 4.
+fn negative_cells(generator: &mut Generator, calls: &mut Calls) -> Result<(), Difference> {
+    let accepted = random_table(generator, 12);
+    let table = with_negative_cell(generator, &accepted);
+    for array in [0, 1, 171] {
+        for room in 0..REPLY + 2 {
+            calls.compare_stated(&Asking::of(generator, &table, array, room), 4)?;
         }
     }
     Ok(())

@@ -4,7 +4,7 @@ mod literal;
 
 use compare::buffer::{lengths_around, Buffer};
 use compare::cases::{require, Call, Calls, Difference, Kind, Named};
-use compare::lent_tables::{turned_back, LentTable};
+use compare::lent_tables::{turned_back, with_negative_cell, LentTable};
 use reference::number_of;
 use tables::papers::{self, Example};
 use tables::{all_sizes, random_table, random_table_of, Generator, GivenTable};
@@ -24,6 +24,11 @@ pub const KINDS: &[Kind] = &[
         name: "round-refusals",
         cases: 200,
         compare: refusals,
+    },
+    Kind {
+        name: "round-negative-cells",
+        cases: 500,
+        compare: negative_cells,
     },
 ];
 
@@ -140,6 +145,16 @@ fn refusals(generator: &mut Generator, calls: &mut Calls) -> Result<(), Differen
         for room in lengths_around(generator, accepted.cells.len()) {
             calls.compare(&Round::of(generator, &table, room))?;
         }
+    }
+    Ok(())
+}
+
+/// A cell below 0, with buffers of all lengths: 4.
+fn negative_cells(generator: &mut Generator, calls: &mut Calls) -> Result<(), Difference> {
+    let accepted = random_table(generator, 12);
+    let table = with_negative_cell(generator, &accepted);
+    for room in lengths_around(generator, table.cells.len()) {
+        calls.compare_stated(&Round::of(generator, &table, room), 4)?;
     }
     Ok(())
 }
