@@ -6,9 +6,7 @@
         counts = campaign.draw_random()                 # how many cartons of each cell to open
     assert campaign.tally == campaign.plan.cells
 
-The shared object, which LUFODIMI_LIBRARY names if it stands elsewhere, is made of what `rt staticlib exports` writes:
-
-    cc -shared -o target/staticlib/liblufodimi.so -Wl,--whole-archive target/staticlib/libexports.a -Wl,--no-whole-archive
+The shared object is the repository's target/lib/liblufodimi.so, which `scripts/library` makes; LUFODIMI_LIBRARY names it if it stands elsewhere.
 
 What the library turns back is a Refusal; an integer beyond 32 bits is an OverflowError, and bytes that are no stored record are a ValueError. None of them
 changes anything. Counts, cells, sums and numbers come as lists of integers.
@@ -64,12 +62,12 @@ class _Record(ctypes.Structure):
     _fields_ = [("taken", c_uint32), ("rounds", c_uint16)]
 
 
-_path = os.environ.get("LUFODIMI_LIBRARY") or str(pathlib.Path(__file__).resolve().parents[1] / "target/staticlib/liblufodimi.so")
+_path = os.environ.get("LUFODIMI_LIBRARY") or str(pathlib.Path(__file__).resolve().parents[1] / "target/lib/liblufodimi.so")
 try:
     # The calls of a PyDLL keep Python's own lock, so that no other thread writes to a record while it is lent.
     _library = ctypes.PyDLL(_path)
 except OSError as error:
-    raise ImportError(f"lufodimi's shared object cannot be loaded ({error}); LUFODIMI_LIBRARY names it") from None
+    raise ImportError(f"lufodimi's shared object cannot be loaded ({error}); scripts/library makes it, and LUFODIMI_LIBRARY names it if it stands elsewhere") from None
 _words, _counts, _plan = [POINTER(c_uint32), c_size_t], [POINTER(c_uint16), c_size_t], [c_char_p, c_size_t]
 _table, _record = [c_uint32] * 3 + _words, [POINTER(_Record), POINTER(c_uint8), c_size_t, POINTER(c_uint64), c_size_t]
 _library.lufodimi_round.argtypes = _table + _counts

@@ -458,6 +458,7 @@ class Tests(unittest.TestCase):
         )
         last = ended.stderr.splitlines()[-1]
         self.assertTrue(last.startswith("ImportError: lufodimi's shared object cannot be loaded (/nowhere/liblufodimi.so: "), last)
+        self.assertIn("; scripts/library makes it,", last)
 
 
 if __name__ == "__main__":

@@ -1,5 +1,5 @@
-//! Links `libexports.a` from the folder that LUFODIMI_LIB_DIR names, or else from the
-//! repository's `target/staticlib`.
+//! Links `liblufodimi.a` from the folder that LUFODIMI_LIB_DIR names, or else from the
+//! repository's `target/lib`.
 
 use std::env;
 use std::path::{Path, PathBuf};
@@ -8,16 +8,16 @@ const VARIABLE: &str = "LUFODIMI_LIB_DIR";
 
 fn main() {
     let folder = folder();
-    let archive = folder.join("libexports.a");
+    let archive = folder.join("liblufodimi.a");
     println!("cargo::rerun-if-env-changed={VARIABLE}");
     println!("cargo::rerun-if-changed={}", archive.display());
     if archive.is_file() {
         println!("cargo::rustc-link-search=native={}", folder.display());
-        println!("cargo::rustc-link-lib=static=exports");
+        println!("cargo::rustc-link-lib=static=lufodimi");
     } else {
         println!(
-            "cargo::error=there is no {}: run `rt staticlib exports` in the repository, \
-             or let {VARIABLE} name the folder of libexports.a",
+            "cargo::error=there is no {}: run `scripts/library` in the repository, \
+             or let {VARIABLE} name the folder of liblufodimi.a",
             archive.display()
         );
     }
@@ -32,5 +32,5 @@ fn folder() -> PathBuf {
     let repository = Path::new(&package).ancestors().nth(2);
     repository
         .expect("the package is in rust/lufodimi-sys")
-        .join("target/staticlib")
+        .join("target/lib")
 }

@@ -6,8 +6,8 @@
 //! refusal that applies, in the order of their numbers, but 11, 12 and 14 before 7, and 13
 //! before 10. A refusal changes no buffer. The crate `lufodimi` makes types of all this.
 //!
-//! Build the library once with `rt staticlib exports` in the repository. The variable
-//! `LUFODIMI_LIB_DIR` names another folder than the repository's own `target/staticlib`.
+//! Make the library once with `scripts/library` in the repository. The variable
+//! `LUFODIMI_LIB_DIR` names another folder than the repository's own `target/lib`.
 //!
 //! ```
 //! let (cells, mut counts) = ([1, 1, 1, 1], [0; 4]);
