@@ -9,7 +9,7 @@ use lib.ListN.{length, getD, set, drop, length-set, length-append, length-drop, 
 use lib.Seq.{ext-getD, getD-set-same, getD-set-other, getD-append-add, getD-drop}
 use Rattle.base.specs.Lists.{tabulate}
 use Rattle.base.specs.Buffers.{written}
-use Rattle.base.specs.Fill.{Filled}
+use Rattle.base.specs.Contracts.{Filled}
 use Rattle.base.proofs.Lists.{length-tabulate, getD-tabulate}
 
 pub filled-none : (f : ℕ → ℕ) (from : ℕ) (old : List ℕ) → Filled f from old old 0

@@ -1,5 +1,4 @@
 pub mod Lists
 pub mod Buffers
-pub mod Fill
-pub mod Widths
 pub mod Search
+pub mod Contracts

@@ -5,7 +5,7 @@ ghost use lib.IntN.{pos};
 ghost use lib.Signed.{_≤ℤ_};
 ghost use mir.Syntax.{w16};
 ghost use mir.Val.{SFits};
-ghost use Rattle.base.specs.Widths.{Widened};
+ghost use Rattle.base.specs.Contracts.{Widened};
 
 // A byte in 64 bits.
 pub fn u8_to_u64(x: u8) -> u64

@@ -1,5 +1,5 @@
 // Lists, finite sums, searches and lent buffers, with their laws; and numbers in a wider or narrower type.
-ghost use Rattle.base.specs.Widths.{Widened};
+ghost use Rattle.base.specs.Contracts.{Widened};
 
 pub mod convert;
 pub mod write;

@@ -8,9 +8,9 @@ ghost use Rattle.refusals.specs.Due.{answerOf, after};
 ghost use Rattle.base.specs.Buffers.{written};
 ghost use Rattle.form.specs.Plan.{cellCount};
 ghost use Rattle.form.specs.Form.{decode};
-ghost use Rattle.opening.specs.Open.{openAnswer, openedNumber, drawRefusal, drawnArray};
-ghost use Rattle.parts.specs.Parts.{sizeNumbers, partRefusal};
-ghost use Rattle.parts.specs.Array.{buffers, arrayRefusal, arrayInto};
+ghost use Rattle.opening.specs.Open.{openAnswer, openedNumber, drawRefusal, drawnArray, partRefusal};
+ghost use Rattle.plan_parts.specs.Sizes.{sizeNumbers};
+ghost use Rattle.plan_parts.specs.Array.{buffers, arrayRefusal, arrayInto};
 ghost use Rattle.variances.specs.Covariance.{numerators};
 
 // Opens a stored plan: 0, or the refusal's number.
@@ -40,7 +40,7 @@ pub extern "C" fn lufodimi_sizes(plan: &[u8], sizes: &mut [u32]) -> u32
     ensures buffer { λ _. ⌜ now (sizes .exit) ≡ after (partRefusal (now (plan .entry)) 4 (length (now (sizes .entry))))
         (written (sizeNumbers (now (plan .entry))) (now (sizes .entry))) (now (sizes .entry)) ⌝ }
 {
-    let told = parts::sizes(plan, sizes);
+    let told = plan_parts::sizes(plan, sizes);
     refusals::answer_number(told)
 }
 
@@ -51,7 +51,7 @@ pub extern "C" fn lufodimi_cells(plan: &[u8], cells: &mut [u32]) -> u32
     ensures buffer { λ _. ⌜ now (cells .exit) ≡ after (partRefusal (now (plan .entry)) (cellCount (decode (now (plan .entry)))) (length (now (cells .entry))))
         (written (decode (now (plan .entry)) .cells) (now (cells .entry))) (now (cells .entry)) ⌝ }
 {
-    let read = parts::cells(plan, cells);
+    let read = plan_parts::cells(plan, cells);
     refusals::answer_number(read)
 }
 
@@ -68,7 +68,7 @@ pub extern "C" fn lufodimi_array(
         ≡ after (arrayRefusal (now (plan .entry)) array (length (now (weight .entry))) (length (now (counts .entry))))
         (arrayInto (now (plan .entry)) array (buffers (now (weight .entry)) (now (counts .entry)))) (buffers (now (weight .entry)) (now (counts .entry))) ⌝ }
 {
-    let given = parts::array::array(plan, array, weight, counts);
+    let given = plan_parts::array::array(plan, array, weight, counts);
     refusals::answer_number(given)
 }
 

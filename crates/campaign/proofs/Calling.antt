@@ -13,7 +13,7 @@ use mir.Syntax.{w64}
 use borrow.Author.Tests.{le-leb, lt-leb, leb-false, lt-ltb, le-ltb, ltb-false, eqb-true, eq-eqb, ne-eqb, not-true, not-false}
 use Rattle.base.specs.Lists.{tabulate, sumTo}
 use Rattle.base.specs.Buffers.{written}
-use Rattle.base.specs.Fill.{Filled}
+use Rattle.base.specs.Contracts.{Filled}
 use Rattle.base.proofs.Lists.{and-left, and-right, tabulate-ext, tabulate-all}
 use Rattle.base.proofs.Filling.{front-more}
 use Rattle.base.proofs.Buffers.{written-at, written-length}
@@ -29,14 +29,14 @@ use Rattle.opening.specs.declared.Opened.the-variants as opened
 use Rattle.form.specs.Plan.{Plan, cellCount}
 use Rattle.form.specs.Form.{sizesOf, decode}
 use Rattle.opening.specs.Open.{openTests, openRefusal, Opens, openAnswer, drawnArray, Drawing}
-use Rattle.form.specs.Parts.{Sized}
+use Rattle.form.specs.Contracts.{Sized}
 use Rattle.form.proofs.Sizing.{cells-are, denominator-is, sized-denominator}
 use Rattle.opening.proofs.Opening.{is-open, is-refused, opens-layout, opens-by, opens-answer, opened-sized, sizes-product}
 use Rattle.records.specs.Record.{CampaignRecord, recordOf, bitOf, bitBytes, roomFor, spareClear, takenSum, maxRounds, within, fits}
 use Rattle.campaign.specs.Calls.{startTests, startRefusal, cleared, campaignRefusal, taking, closed, started, ask, made, Starts, Draws}
 use Rattle.campaign.specs.declared.Step.{Step}
-use Rattle.records.specs.Parts.{Unset, Fitted}
-use Rattle.campaign.specs.Parts.{sizesOr, Addends, Closable, Closes}
+use Rattle.records.specs.Contracts.{Unset, Fitted}
+use Rattle.campaign.specs.Contracts.{sizesOr, Addends, Closable, Closes}
 use Rattle.opening.proofs.Sound.{sound}
 use Rattle.records.proofs.Long.{room-bits, room-tally}
 use Rattle.records.proofs.Numbers.{array-length, count-room, tally-room}

@@ -6,7 +6,7 @@ ghost use Rattle.base.specs.Lists.{tabulate};
 ghost use Rattle.base.specs.Buffers.{written};
 ghost use Rattle.records.specs.Record.{recordOf};
 ghost use Rattle.campaign.specs.Calls.{campaignRefusal, ask, made, Draws};
-ghost use Rattle.campaign.specs.Parts.{sizesOr, Addends};
+ghost use Rattle.campaign.specs.Contracts.{sizesOr, Addends};
 use crate::Step;
 use crate::room::open_for;
 use crate::round::close_round;

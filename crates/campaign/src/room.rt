@@ -2,7 +2,7 @@
 ghost use mathlib.Core.Path.{_≡_};
 ghost use Rattle.records.specs.Record.{recordOf};
 ghost use Rattle.campaign.specs.Calls.{startRefusal};
-ghost use Rattle.campaign.specs.Parts.{sizesOr};
+ghost use Rattle.campaign.specs.Contracts.{sizesOr};
 use opening::Opened;
 use opening::open::open;
 use refusals::Refusal;

@@ -1,5 +1,5 @@
 // The end of a round.
-ghost use Rattle.campaign.specs.Parts.{Closable, Closes};
+ghost use Rattle.campaign.specs.Contracts.{Closable, Closes};
 use crate::Step;
 use records::bitset::clear_bytes;
 use refusals::Answer;

@@ -10,16 +10,16 @@ use mir.Syntax.{w16, w32, w64}
 use mir.Val.{SFits, toZ, ofZ}
 use mir.Facts.{toZ-ofZ}
 use Rattle.base.specs.Lists.{tabulate}
-use Rattle.base.specs.Widths.{Widened}
+use Rattle.base.specs.Contracts.{Widened}
 use Rattle.base.specs.Buffers.{written}
 use Rattle.base.proofs.Tabulated.{tabulate-getD}
 use Rattle.base.proofs.Storing.{Stored, stored-more, stored-length, stored-all}
 use Rattle.base.proofs.Signs.{there, wider, wider-is}
 use Rattle.division.specs.Division.{down, rest}
-use Rattle.division.specs.Divide.{Divides}
+use Rattle.division.specs.Contracts.{Divides}
 use Rattle.division.specs.declared.Divided.{Divided}
 use Rattle.division.proofs.Meanings.{parts-of}
-use Rattle.corrections.specs.Loops.{rests, RestsReady, countOf, countsOf, CountReady, CountsReady}
+use Rattle.corrections.specs.Contracts.{rests, RestsReady, countOf, countsOf, CountReady, CountsReady}
 
 -- the division of a cell of 32 bits
 module _ {d : ℕ} {z x : ℤ} (f : SFits w32 z) (e : x ≡ toZ w32 (ofZ w32 z)) {q : Divided} (p : Divides d (there x) q) where

@@ -4,7 +4,7 @@ use mathlib.Core.List.{map}
 use Rattle.base.specs.Lists.{tabulate, sumℤ, all}
 use Rattle.refusals.specs.Due.{due, answerOf, after}
 use Rattle.table.specs.Table.{entryPlaces}
-use Rattle.order.specs.Order.{nthRow, nthColumn, rank}
+use Rattle.cell_order.specs.Order.{nthRow, nthColumn, rank}
 use Rattle.rounding.specs.Order.{inOrder, arrayOf, firstOf}
 use Rattle.corrections.specs.Rounding.{total, roundsTo, isRounding, firstRounding}
 use Rattle.corrections.specs.Call.{roundRefusal}

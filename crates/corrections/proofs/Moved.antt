@@ -18,10 +18,10 @@ use Rattle.base.proofs.Lists.{length-tabulate, getD-tabulate, tabulate-ext, map
 use Rattle.base.proofs.Tabulated.{tabulate-getD}
 use Rattle.base.proofs.Zips.{zip-length, zip-at}
 use Rattle.base.proofs.Differences.{sum-times, sum-cross}
-use Rattle.order.specs.Order.{nthRow, nthColumn, rank}
+use Rattle.cell_order.specs.Order.{nthRow, nthColumn, rank}
 use Rattle.table.specs.Table as natural-table
 use Rattle.table.specs.Table.{cellPlaces, entryPlaces}
-use Rattle.table.specs.Shape.{Shape}
+use Rattle.table.specs.Contracts.{Shape}
 use Rattle.table.proofs.Sizes.{place-of}
 use Rattle.table.proofs.EntryPlaces.{entries-length, cell-at}
 use Rattle.rounding.specs.Order.{inOrder, arrayOf, Smaller, Choice, either, emptyIf, found, firstOf}

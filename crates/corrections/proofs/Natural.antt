@@ -15,7 +15,7 @@ use Rattle.base.specs.Buffers.{written}
 use Rattle.refusals.specs.declared.Refusal.{Refusal}
 use Rattle.refusals.specs.Due.{due, after}
 use Rattle.refusals.proofs.Dues.{first-none}
-use Rattle.table.specs.Shape.{IsTable}
+use Rattle.table.specs.Contracts.{IsTable}
 use Rattle.table.specs.Check as natural-check
 use Rattle.table.proofs.Checks.{passed-all}
 use Rattle.rounding.specs.Rounding as natural

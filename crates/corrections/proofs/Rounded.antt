@@ -22,7 +22,7 @@ use Rattle.base.proofs.Differences.{sub-below, sub-above}
 use Rattle.division.specs.Division.{down, rest}
 use Rattle.division.proofs.Meanings.{parts-of}
 use Rattle.table.specs.Table.{entryPlaces}
-use Rattle.table.specs.Shape.{IsTable}
+use Rattle.table.specs.Contracts.{IsTable}
 use Rattle.table.proofs.Checks.{Sized, sized-table}
 use Rattle.table.proofs.EntryPlaces.{entries-length, cell-at}
 use Rattle.table.proofs.Sizes.{few-cells}
@@ -31,12 +31,12 @@ use Rattle.table.proofs.Roundings.{gap-le, rounds-high}
 use Rattle.table.specs.Table as natural-table
 use Rattle.table.specs.Whole as natural-whole
 use Rattle.rounding.specs.Rounding as natural
-use Rattle.rounding.specs.Lines.{TableReady}
+use Rattle.rounding.specs.Contracts.{TableReady}
 use Rattle.rounding.proofs.Existence.{first-exists}
 use Rattle.rounding.proofs.Roundings.{rounding-length}
 use Rattle.corrections.specs.Rounding.{IsFirst, firstRounding}
 use Rattle.corrections.specs.Call.{cellWithin, tableRefusal}
-use Rattle.corrections.specs.Loops.{rests, RestsReady, countOf, countsOf, CountsReady}
+use Rattle.corrections.specs.Contracts.{rests, RestsReady, countOf, countsOf, CountsReady}
 use Rattle.corrections.proofs.Moved.{plus, moved, moved-at, moved-length, Parted, first-moved, is-first}
 use Rattle.corrections.proofs.Sheets.{accepted-sizes, accepted-cells}
 

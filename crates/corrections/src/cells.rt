@@ -6,7 +6,7 @@ ghost use lib.IntN.{negℤ};
 ghost use lib.Signed.{leZ};
 ghost use Rattle.table.specs.Check.{answered};
 ghost use Rattle.corrections.specs.Call.{cellWithin, cellsWithin, tableRefusal};
-ghost use Rattle.corrections.specs.Loops.{Opposite};
+ghost use Rattle.corrections.specs.Contracts.{Opposite};
 use base::convert::i32_to_i64;
 use base::convert::u64_to_i64;
 use base::wide;

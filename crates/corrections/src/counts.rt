@@ -2,7 +2,7 @@
 ghost use mathlib.Core.Path.{_≡_};
 ghost use lib.IntN.{_+ℤ_};
 ghost use Rattle.base.specs.Buffers.{written};
-ghost use Rattle.corrections.specs.Loops.{Summable, rests, RestsReady, countOf, countsOf, CountReady, CountsReady};
+ghost use Rattle.corrections.specs.Contracts.{Summable, rests, RestsReady, countOf, countsOf, CountReady, CountsReady};
 use base::convert::i32_to_i64;
 use base::convert::i64_to_i16;
 use base::convert::u16_to_u64;

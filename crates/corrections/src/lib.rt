@@ -11,7 +11,7 @@ ghost use Rattle.corrections.specs.Rounding.{IsFirst, firstRounding};
 ghost use Rattle.corrections.specs.Call.{tableRefusal, roundRefusal};
 ghost use Rattle.corrections.specs.Same.{replyOf, naturalReply};
 ghost use Rattle.corrections.specs.Examples.{rounded, roundedOf, candidates, roundsSheet, calls, outcome, said};
-ghost use Rattle.corrections.specs.Loops.{SheetReady};
+ghost use Rattle.corrections.specs.Contracts.{SheetReady};
 use crate::cells::check;
 use crate::counts::counts;
 use crate::counts::remainders;

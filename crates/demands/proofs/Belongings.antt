@@ -9,7 +9,7 @@ use native.Mathlib.Omega.{arith}
 use Rattle.base.specs.Lists.{sum, sumTo}
 use Rattle.base.proofs.Sums.{sum-add-range}
 use Rattle.form.specs.Plan.{Weighted, arrayAt}
-use Rattle.opening.specs.Parts.{weightsBefore, Belongs}
+use Rattle.opening.specs.Contracts.{weightsBefore, Belongs}
 use Rattle.opening.proofs.Belonging.{before-front, array-for}
 use Rattle.demands.specs.Numbers.{Belonging}
 

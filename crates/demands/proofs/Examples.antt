@@ -9,13 +9,13 @@ use Rattle.refusals.specs.Due.{due, answerOf, after}
 use Rattle.table.specs.Table.{total, entryPlaces}
 use Rattle.table.specs.Whole.{whole, gap, roundsTo}
 use Rattle.table.specs.Check.{tableRefusal, checkOf, checkedNumber}
-use Rattle.order.specs.Order.{nthRow, nthColumn, rank}
+use Rattle.cell_order.specs.Order.{nthRow, nthColumn, rank}
 use Rattle.rounding.specs.Order.{inOrder, arrayOf, firstOf}
 use Rattle.rounding.specs.Rounding.{isRounding, firstRounding}
 use Rattle.form.specs.Plan.{arrayFor}
 use Rattle.form.specs.Form.{encode, head, contentsEntry, bytes, number, headRight, laidOut, decode}
 use Rattle.opening.specs.Open.{consistent}
-use Rattle.rounds.specs.Rounds.{limitOf, weightOf, without, roundsFrom, planOf}
+use Rattle.planning.specs.Rounds.{limitOf, weightOf, without, roundsFrom, planOf}
 use Rattle.plan.proofs.ZeroPlans.{zero-plan}
 use Rattle.records.specs.Record.{bitOf, within, fits}
 use Rattle.campaign.specs.Calls.{startRefusal, cleared, campaignRefusal, taking, closed, started, made}

@@ -16,9 +16,8 @@ use Rattle.refusals.proofs.Dues.{due-here, due-next, none-applies}
 use Rattle.rounding.specs.Call.{roundRefusal}
 use Rattle.corrections.specs.Call as corrections
 use Rattle.plan.specs.Call.{planRefusal}
-use Rattle.opening.specs.Open.{openRefusal, drawRefusal}
-use Rattle.parts.specs.Parts.{partRefusal}
-use Rattle.parts.specs.Array.{arrayRefusal}
+use Rattle.opening.specs.Open.{openRefusal, drawRefusal, partRefusal}
+use Rattle.plan_parts.specs.Array.{arrayRefusal}
 use Rattle.reasons.specs.Call.{replyRefusal}
 use Rattle.campaign.specs.Calls.{startRefusal, campaignRefusal}
 use Rattle.pool.specs.Pool.{poolRefusal}

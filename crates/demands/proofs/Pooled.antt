@@ -13,7 +13,7 @@ use Rattle.refusals.specs.declared.Answer.{Answer}
 use Rattle.refusals.specs.declared.Refusal.the-variants.{Buffer}
 use Rattle.refusals.specs.Due.{refuse, due, answerOf, after, Answers}
 use Rattle.refusals.proofs.Dues.{due-second}
-use Rattle.table.specs.Shape.{IsTable}
+use Rattle.table.specs.Contracts.{IsTable}
 use Rattle.table.proofs.Checks.{passed-all}
 use Rattle.multiples.specs.Multiple.{leastMultiple}
 use Rattle.plan.proofs.Planning as plan

@@ -19,7 +19,7 @@ use Rattle.refusals.specs.Due.{Test, refuse, due, answerOf, after}
 use Rattle.refusals.proofs.Dues.{due-second, not-here, not-later}
 use Rattle.form.specs.Plan.{Plan, cellCount}
 use Rattle.form.specs.Form.{sizesOf, decode}
-use Rattle.form.specs.Parts.{Sized}
+use Rattle.form.specs.Contracts.{Sized}
 use Rattle.form.proofs.Sizing.{denominator-is, sized-some}
 use Rattle.opening.specs.Open.{openTests, openRefusal, Opens, drawRefusal, drawnArray}
 use Rattle.records.specs.Record.{CampaignRecord, maxRounds, bitOf, roomFor}

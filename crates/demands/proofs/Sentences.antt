@@ -8,7 +8,7 @@ use lib.ListN.{length}
 use borrow.Author.Tests.{eq-eqb, eqb-true}
 use Rattle.table.specs.Table.{maxEntries, entryPlaces}
 use Rattle.table.specs.Whole.{down, whole}
-use Rattle.rounds.specs.Rounds.{limitOf}
+use Rattle.planning.specs.Rounds.{limitOf}
 use Rattle.table.proofs.EntryPlaces.{entries-length}
 
 pub few-entries : (r c : ℕ) → r ≤ 12 → c ≤ 12 → length (entryPlaces r c) ≤ maxEntries

@@ -7,7 +7,7 @@ use Rattle.base.specs.Lists.{tabulate}
 use Rattle.table.specs.Table.{maxRows, maxColumns, maxDenominator}
 use Rattle.table.specs.Check.{checkedNumber, checkOf}
 use Rattle.form.specs.Plan.{Plan, arrayFor}
-use Rattle.rounds.specs.Rounds.{planOf}
+use Rattle.planning.specs.Rounds.{planOf}
 
 -- what an example says of a table: its plan, for each array the weight and then the counts; the arrays that draw numbers 0, 1, .. belong to; or the
 -- number that the table is answered with, 0 where it is taken

@@ -7,7 +7,7 @@ use Rattle.form.specs.Form.{decode}
 use Rattle.opening.specs.Open.{Opens}
 use Rattle.plan.specs.declared.Planned.{Planned}
 use Rattle.plan.specs.declared.Planned.the-variants.{Length}
-use Rattle.rounds.specs.Rounds.{planOf, notWhole}
+use Rattle.planning.specs.Rounds.{planOf, notWhole}
 use Rattle.demands.specs.Claim.{Held}
 
 -- an accepted table that was planned into a buffer with room: the answer, and what the buffer holds

@@ -10,7 +10,7 @@ use Rattle.refusals.specs.declared.Answer.the-variants.{Done}
 use Rattle.table.specs.Table.{total}
 use Rattle.table.specs.Check.{tableRefusal}
 use Rattle.multiples.specs.Multiple.{LeastMultiple}
-use Rattle.rounds.specs.Rounds.{planOf}
+use Rattle.planning.specs.Rounds.{planOf}
 use Rattle.pool.specs.Pool.{Lent}
 use Rattle.pool.specs.Promises.{AddsUp}
 

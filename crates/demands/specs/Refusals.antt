@@ -12,9 +12,8 @@ use Rattle.refusals.specs.Due.{Test, refuse, noneApplies}
 use Rattle.rounding.specs.Call.{roundTests, roundRefusal}
 use Rattle.corrections.specs.Call as corrections
 use Rattle.plan.specs.Call.{planTests, planRefusal}
-use Rattle.opening.specs.Open.{openTests, openRefusal, drawTests, drawRefusal}
-use Rattle.parts.specs.Parts.{partTests, partRefusal}
-use Rattle.parts.specs.Array.{arrayTests, arrayRefusal}
+use Rattle.opening.specs.Open.{openTests, openRefusal, drawTests, drawRefusal, partTests, partRefusal}
+use Rattle.plan_parts.specs.Array.{arrayTests, arrayRefusal}
 use Rattle.reasons.specs.Call.{replyTests, replyRefusal}
 use Rattle.pool.specs.Pool.{poolTests, poolRefusal}
 use Rattle.records.specs.Record.{CampaignRecord}

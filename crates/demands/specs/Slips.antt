@@ -16,7 +16,7 @@ use Rattle.form.specs.Plan.{Weighted, Plan}
 use Rattle.form.specs.Form.{encode, decode}
 use Rattle.form.specs.Examples.{square, withWeight}
 use Rattle.opening.specs.Open.{openTests, drawnArray}
-use Rattle.rounds.specs.Rounds.{limitOf, without, planOf}
+use Rattle.planning.specs.Rounds.{limitOf, without, planOf}
 use Rattle.records.specs.Record.{CampaignRecord, recordOf}
 use Rattle.campaign.specs.Calls.{Asked, Made, ask, made}
 use Rattle.demands.specs.Runs.{draws, lastRecord, drawn}

@@ -20,7 +20,7 @@ ghost use Rattle.table.specs.Whole.{down, whole};
 ghost use Rattle.table.specs.Check.{tableRefusal};
 ghost use Rattle.form.specs.Plan.{Weighted};
 ghost use Rattle.opening.specs.Open.{Opens};
-ghost use Rattle.rounds.specs.Rounds.{limitOf};
+ghost use Rattle.planning.specs.Rounds.{limitOf};
 ghost use Rattle.plan.specs.declared.Planned.{Planned};
 ghost use Rattle.plan.specs.Call.{planBytes, PlanAnswers};
 ghost use Rattle.plan.specs.Promises.{Promises};

@@ -13,7 +13,7 @@ use mir.Val.{SFits}
 use mir.Facts.{toZ-ofZ}
 use Rattle.base.proofs.Signs.{there}
 use Rattle.division.specs.Division.{down, rest}
-use Rattle.division.specs.Divide.{flipOf, Divides}
+use Rattle.division.specs.Contracts.{flipOf, Divides}
 
 flips : (z : ℤ) → negsuc 0 -ℤ z ≡ flipOf z
 flips (pos zero) = refl

@@ -1,3 +1,3 @@
 pub mod Division
-pub mod Divide
+pub mod Contracts
 pub mod Examples

@@ -4,7 +4,7 @@ ghost use mathlib.Core.List.{map};
 ghost use Prim.Native.Nat.{ℕ, _<_};
 ghost use lib.IntN.{ℤ};
 ghost use Rattle.division.specs.Division.{down, rest, Parts};
-ghost use Rattle.division.specs.Divide.{flipOf, Divides};
+ghost use Rattle.division.specs.Contracts.{flipOf, Divides};
 ghost use Rattle.division.specs.Examples.{cases, divided};
 use base::convert::i64_to_u64;
 use base::convert::u64_to_i64;

@@ -11,7 +11,7 @@ use Rattle.base.specs.Lists.{tabulate}
 use Rattle.base.proofs.Lists.{all-tabulate}
 use Rattle.base.proofs.Tabulated.{tabulate-getD}
 use Rattle.table.specs.Table.{maxDenominator, maxArrays}
-use Rattle.table.specs.Shape.{Shape}
+use Rattle.table.specs.Contracts.{Shape}
 use Rattle.form.specs.Plan.{Weighted, Plan, arrayAt}
 use Rattle.form.specs.Form.{bytes, number, head, contentsEntry, bodyAt, amountIn, encode, decode, headRight, laidOut, formOf, rowsOf, columnsOf, arraysOf, zeroOf, amountOf, offsetOf, denominatorOf, cellOf, countOf}
 use Rattle.base.proofs.Joins.{holds-left, holds-right}

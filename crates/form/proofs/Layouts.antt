@@ -17,7 +17,7 @@ use Rattle.table.specs.Check.{upTo}
 use Rattle.table.proofs.Checks.{upTo-low, upTo-high}
 use Rattle.form.specs.declared.Sizes.{Sizes}
 use Rattle.form.specs.Form.{bodyAt, planLength, minLength, maxLength, formOf, rowsOf, columnsOf, arraysOf, zeroOf, offsetOf, denominatorOf, sizesOf, lengthOf, startRight, headRight, laidOut}
-use Rattle.form.specs.Parts.{Bounded, Contents, offsetsRight, Laid}
+use Rattle.form.specs.Contracts.{Bounded, Contents, offsetsRight, Laid}
 
 -- where bodies begin, and how long a plan is
 pub table-first : (r c k i : ℕ) → i ≡ 0 → 8 + 8 * (k + 1) ≡ bodyAt r c k i

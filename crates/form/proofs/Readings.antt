@@ -16,7 +16,7 @@ use Rattle.base.proofs.Lists.{length-tabulate, getD-tabulate, tabulate-ext}
 use Rattle.form.specs.declared.Sizes.{Sizes}
 use Rattle.form.specs.Plan.{Weighted, arrayAt, cellCount}
 use Rattle.form.specs.Form.{bodyAt, rowsOf, columnsOf, arraysOf, amountOf, offsetOf, sizesOf, cellOf, countOf, laidOut, decode}
-use Rattle.form.specs.Parts.{Bounded, Laid, cellIn, countIn, Body, HasTable, HasArray, HasCounts}
+use Rattle.form.specs.Contracts.{Bounded, Laid, cellIn, countIn, Body, HasTable, HasArray, HasCounts}
 use Rattle.form.proofs.Numbers.{rest, number-drop, number-small, number-four-small, part-room}
 use Rattle.form.proofs.Layouts.{cells-few, cells-fit, laid}
 

@@ -6,11 +6,11 @@ use native.Mathlib.Omega.{arith}
 use lib.ListN.{length}
 use mir.Val.{Fits}
 use mir.Syntax.{w64}
-use Rattle.table.specs.Shape.{Shape}
+use Rattle.table.specs.Contracts.{Shape}
 use Rattle.form.specs.declared.Sizes.{Sizes}
 use Rattle.form.specs.Plan.{cellCount}
 use Rattle.form.specs.Form.{decode}
-use Rattle.form.specs.Parts.{Laid, Sized, HasTable, HasArray, HasCounts}
+use Rattle.form.specs.Contracts.{Laid, Sized, HasTable, HasArray, HasCounts}
 use Rattle.form.proofs.Layouts.{laid, cells-few}
 use Rattle.form.proofs.Readings.{decode-arrays}
 

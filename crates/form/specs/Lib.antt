@@ -1,5 +1,5 @@
 pub mod Plan
 pub mod Form
-pub mod Parts
 pub mod Find
+pub mod Contracts
 pub mod Examples

@@ -4,7 +4,7 @@ ghost use mathlib.Core.Bool.{true};
 ghost use Prim.Native.Nat.{_+_, _*_, _≤_};
 ghost use lib.ListN.{length};
 ghost use Rattle.form.specs.Form.{bodyAt, planLength, lengthOf, amountOf, offsetOf, sizesOf, startRight, headRight, laidOut};
-ghost use Rattle.form.specs.Parts.{Bounded, Contents, offsetsRight};
+ghost use Rattle.form.specs.Contracts.{Bounded, Contents, offsetsRight};
 use crate::Sizes;
 use crate::bytes::four;
 use crate::bytes::one;

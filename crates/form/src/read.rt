@@ -4,7 +4,7 @@ ghost use Rattle.base.specs.Lists.{tabulate};
 ghost use Rattle.base.specs.Buffers.{written};
 ghost use Rattle.form.specs.Plan.{arrayAt};
 ghost use Rattle.form.specs.Form.{decode};
-ghost use Rattle.form.specs.Parts.{cellIn, countIn, Body, HasArray, HasTable, HasCounts};
+ghost use Rattle.form.specs.Contracts.{cellIn, countIn, Body, HasArray, HasTable, HasCounts};
 use crate::bytes::four;
 use crate::bytes::two;
 use crate::layout::amount;

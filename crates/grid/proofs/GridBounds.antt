@@ -6,8 +6,8 @@ use native.Mathlib.Nat.{mul-le-mul}
 use native.Mathlib.Omega.{arith}
 use lib.ListN.{getD, List·getD-eq-default}
 use Rattle.table.specs.Table.{maxEntry, total}
-use Rattle.grid.specs.Grid.{gridAt, gridOf}
-use Rattle.table.specs.Shape.{IsTable}
+use Rattle.grid.specs.Contracts.{gridAt, gridOf}
+use Rattle.table.specs.Contracts.{IsTable}
 use Rattle.table.proofs.Totals.{total-none}
 use Rattle.grid.proofs.GridPlaces.{grid-entry, length-grid}
 use Rattle.grid.proofs.GridTests.{grid-each}

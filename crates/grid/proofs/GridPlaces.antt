@@ -7,7 +7,7 @@ use lib.Arith.{digits-div, digits-mod}
 use lib.ListN.{length, getD}
 use borrow.Author.Tests.{lt-ltb, le-ltb}
 use Rattle.table.specs.Table.{total, cellPlaces, rowPlaces, columnPlaces, allPlaces}
-use Rattle.grid.specs.Grid.{gridPlaces, gridAt, gridOf}
+use Rattle.grid.specs.Contracts.{gridPlaces, gridAt, gridOf}
 use Rattle.base.proofs.Lists.{length-tabulate, getD-tabulate}
 use Rattle.base.proofs.Listing.{ListedTo, listed-all}
 use Rattle.table.proofs.Totals.{total-none}

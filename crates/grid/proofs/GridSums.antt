@@ -8,8 +8,8 @@ use native.Mathlib.Omega.{arith}
 use lib.ListN.{getD}
 use Rattle.base.specs.Lists.{sumTo}
 use Rattle.table.specs.Table.{total}
-use Rattle.grid.specs.Grid.{gridAt}
-use Rattle.table.specs.Shape.{Shape}
+use Rattle.grid.specs.Contracts.{gridAt}
+use Rattle.table.specs.Contracts.{Shape}
 use Rattle.base.proofs.Sums.{sum-ext, sum-zero, sum-beyond, sum-rows, sum-swap}
 use Rattle.table.proofs.Totals.{total-sum, total-none}
 use Rattle.grid.proofs.GridPlaces.{grid-no-row, grid-row, grid-past, grid-cell, grid-column, grid-no-column, grid-grand}

@@ -8,8 +8,8 @@ use native.Mathlib.Omega.{arith}
 use lib.Arith.{digits-lt}
 use Rattle.base.specs.Lists.{all}
 use Rattle.table.specs.Table.{cellPlaces, rowPlaces, columnPlaces, allPlaces, entryPlaces}
-use Rattle.grid.specs.Grid.{gridPlaces}
-use Rattle.table.specs.Shape.{Shape}
+use Rattle.grid.specs.Contracts.{gridPlaces}
+use Rattle.table.specs.Contracts.{Shape}
 use Rattle.grid.proofs.GridPlaces.{grid-no-row, grid-row, grid-past, grid-cell, grid-column, grid-no-column, grid-grand}
 use Rattle.table.proofs.Sizes.{place-of}
 use Rattle.table.proofs.EntryTests.{entries-each, each-entries}

@@ -6,9 +6,9 @@ use native.Mathlib.Omega.{arith}
 use lib.ListN.{getD}
 use Rattle.base.proofs.Lists.{tabulate-ext, map-tabulate}
 use Rattle.table.specs.Table.{total, cellPlaces, rowPlaces, columnPlaces, allPlaces, entryPlaces, entries}
-use Rattle.table.specs.Shape.{Shape}
+use Rattle.table.specs.Contracts.{Shape}
 use Rattle.table.proofs.Sizes.{place-of}
-use Rattle.grid.specs.Grid.{gridPlaces, gridAt, gridPlace, gridOf, gridOrder}
+use Rattle.grid.specs.Contracts.{gridPlaces, gridAt, gridPlace, gridOf, gridOrder}
 use Rattle.grid.proofs.GridPlaces.{grid-at, grid-cell, grid-row, grid-column, grid-grand}
 
 module _ {r c : ℕ} {g : List ℕ} (s : Shape r c g) where

@@ -4,7 +4,7 @@ use Prim.Native.Nat.{ℕ, zero, suc, _%_, _<_}
 use native.Mathlib.Decide.{ℕ-discrete}
 use native.Mathlib.Nat.{mod-lt, dvd-refl, dvd-zero, dvd-mod-iff}
 use native.Mathlib.Omega.{arith}
-use Rattle.multiples.specs.Divisor.{Greatest}
+use Rattle.multiples.specs.Contracts.{Greatest}
 
 pub greatest-of-zero : (a b : ℕ) → b ≡ 0 → Greatest a b a
 greatest-of-zero a b e = record { first = dvd-refl a; second = rw e (dvd-zero a); most = λ n h k. h }

@@ -12,7 +12,7 @@ use borrow.Author.Tests.{eq-eqb, eqb-true}
 use Rattle.base.proofs.Lists.{and-left, and-right, and-both}
 use Rattle.base.proofs.Searches.{First, first-found}
 use Rattle.multiples.specs.Multiple.{common, leastMultiple, LeastMultiple}
-use Rattle.multiples.specs.Divisor.{Greatest, Multipliable}
+use Rattle.multiples.specs.Contracts.{Greatest, Multipliable}
 use Rattle.multiples.proofs.Divisors.{greatest-exists}
 
 -- the test of a common multiple

@@ -1,3 +1,3 @@
 pub mod Multiple
-pub mod Divisor
+pub mod Contracts
 pub mod Examples

@@ -3,7 +3,7 @@ ghost use mathlib.Core.Path.{_≡_};
 ghost use mathlib.Core.List.{map};
 ghost use Prim.Native.Nat.{ℕ, _≤_};
 ghost use Rattle.multiples.specs.Multiple.{leastMultiple, LeastMultiple};
-ghost use Rattle.multiples.specs.Divisor.{Greatest, Multipliable};
+ghost use Rattle.multiples.specs.Contracts.{Greatest, Multipliable};
 ghost use Rattle.multiples.specs.Examples.{cases, multiple};
 
 // The greatest common divisor, by recursion: the second number, at each call the remainder of the two before, falls.

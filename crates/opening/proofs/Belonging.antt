@@ -9,7 +9,7 @@ use borrow.Author.Tests.{lt-ltb, le-ltb}
 use Rattle.base.specs.Lists.{sumTo}
 use Rattle.base.proofs.Sums.{sum-front}
 use Rattle.form.specs.Plan.{Weighted, arrayAt, arrayFor}
-use Rattle.opening.specs.Parts.{weightsBefore}
+use Rattle.opening.specs.Contracts.{weightsBefore}
 
 pub before-front : (a : Weighted) (l : List Weighted) (k : ℕ) → weightsBefore (a ∷ l) (suc k) ≡ a .weight + weightsBefore l k
 before-front a l k = sum-front k (λ j. arrayAt (a ∷ l) j .weight)

@@ -20,7 +20,7 @@ use Rattle.base.proofs.Buffers.{written-front}
 use Rattle.table.specs.Table.{total}
 use Rattle.table.specs.Whole.{roundsTo}
 use Rattle.table.specs.Check.{cellsWithin}
-use Rattle.table.specs.Shape.{Shape}
+use Rattle.table.specs.Contracts.{Shape}
 use Rattle.table.proofs.Roundings.{rounds-between}
 use Rattle.form.specs.declared.Sizes.{Sizes}
 use Rattle.form.specs.Plan.{Weighted, Plan, arrayAt, cellCount}
@@ -29,8 +29,8 @@ use Rattle.form.proofs.Readings.{counts-length, cells-length}
 use Rattle.opening.specs.Open.{heldTo, held, weighted, consistent}
 use Rattle.opening.specs.Lines.{Bounds, entriesBetween, Counts}
 use Rattle.opening.specs.Weighted.{Addable, Increased, cellsMet}
-use Rattle.form.specs.Parts.{Sized}
-use Rattle.opening.specs.Parts.{weightsRight, arraysRight, weightsBefore, weightAt, SumsTo, ArraysTo, ArrayTested, ArraysTested, TableOf}
+use Rattle.form.specs.Contracts.{Sized}
+use Rattle.opening.specs.Contracts.{weightsRight, arraysRight, weightsBefore, weightAt, SumsTo, ArraysTo, ArrayTested, ArraysTested, TableOf}
 use Rattle.form.proofs.Sizing.{arrays-are, cells-are, rows-are, columns-are, denominator-is, sized-few, sized-arrays, sized-some, sized-denominator, sized-shape}
 use Rattle.opening.proofs.Weighting.{sums-none, sums-addable, sums-more}
 use Rattle.opening.proofs.Scratch.{scratch-room, counts-read}

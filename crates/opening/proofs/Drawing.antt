@@ -19,10 +19,10 @@ use Rattle.refusals.proofs.Dues.{due-first, due-second}
 use Rattle.form.specs.declared.Sizes.{Sizes}
 use Rattle.form.specs.Plan.{Weighted, arrayAt}
 use Rattle.form.specs.Form.{decode}
-use Rattle.form.specs.Parts.{HasCounts, Sized}
+use Rattle.form.specs.Contracts.{HasCounts, Sized}
 use Rattle.opening.specs.declared.Opened.the-variants as opened
 use Rattle.opening.specs.Open.{openTests, openRefusal, openAnswer, drawRefusal, drawnArray, Drawing}
-use Rattle.opening.specs.Parts.{weightAt, weightsBefore, Belongs, Drawable}
+use Rattle.opening.specs.Contracts.{weightAt, weightsBefore, Belongs, Drawable}
 use Rattle.form.proofs.Sizing.{arrays-are, denominator-is, has-counts}
 use Rattle.opening.proofs.Belonging.{array-for}
 use Rattle.opening.proofs.Opening.{is-open, is-refused, opened-sized}

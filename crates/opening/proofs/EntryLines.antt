@@ -11,14 +11,13 @@ use mir.Val.{Fits}
 use mir.Syntax.{w32, w64}
 use borrow.Author.Tests.{le-leb, lt-leb, not-true, not-false}
 use Rattle.base.specs.Lists.{every}
-use Rattle.base.specs.Fill.{Filled}
+use Rattle.base.specs.Contracts.{Filled}
 use Rattle.base.proofs.SumLoops.{Summed, summed-none, summed-more, summed-all}
 use Rattle.base.proofs.Every.{sum-none, every-add, every-ext, every-intro}
 use Rattle.base.proofs.Filling.{filled-none, filled-more, filled-to, filled-join}
 use Rattle.table.specs.Table.{total}
 use Rattle.table.specs.Whole.{down, gap, up}
-use Rattle.table.specs.Divide.{Dividable, Divides}
-use Rattle.table.specs.Shape.{Shape, Reach}
+use Rattle.table.specs.Contracts.{Dividable, Divides, Shape, Reach}
 use Rattle.table.specs.declared.whole.Divided.{Divided}
 use Rattle.table.proofs.EntryPlaces.{entries-length, cell-at, row-at, column-at, grand-at}
 use Rattle.table.proofs.Totals.{reach-row, reach-column, reach-one, reach-all}

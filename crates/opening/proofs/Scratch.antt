@@ -9,7 +9,7 @@ use Rattle.base.proofs.Buffers.{written-front, written-length}
 use Rattle.form.specs.declared.Sizes.{Sizes}
 use Rattle.form.specs.Plan.{arrayAt}
 use Rattle.form.specs.Form.{decode}
-use Rattle.form.specs.Parts.{Sized}
+use Rattle.form.specs.Contracts.{Sized}
 use Rattle.form.proofs.Readings.{counts-length}
 use Rattle.form.proofs.Sizing.{arrays-are, cells-are, sized-few}
 

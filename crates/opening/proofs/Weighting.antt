@@ -12,13 +12,13 @@ use mir.Val.{Fits}
 use mir.Syntax.{w64}
 use borrow.Author.Tests.{eq-eqb, ne-eqb}
 use Rattle.base.specs.Lists.{sumTo}
-use Rattle.base.specs.Fill.{Filled}
+use Rattle.base.specs.Contracts.{Filled}
 use Rattle.base.proofs.SumLoops.{sum-more}
 use Rattle.base.proofs.Every.{Passed, passed-none, passed-more, passed-all, every-not}
 use Rattle.base.proofs.Filling.{filled-none, front-more, filled-to}
 use Rattle.form.specs.Plan.{Weighted, arrayAt}
 use Rattle.opening.specs.Weighted.{maxProduct, Addable, Increased, cellsMet}
-use Rattle.opening.specs.Parts.{SumsTo}
+use Rattle.opening.specs.Contracts.{SumsTo}
 
 pub product-small : {w x : ℕ} → w < 4294967296 → x < 65536 → w * x ≤ maxProduct
 product-small {w} {x} h l = let a : w ≤ 4294967295 = omega arith in let b : x ≤ 65535 = omega arith in omega (arith, mul-le-mul a b)

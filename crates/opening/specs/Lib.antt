@@ -1,5 +1,5 @@
 pub mod Open
 pub mod Weighted
 pub mod Lines
-pub mod Parts
+pub mod Contracts
 pub mod Examples

@@ -6,10 +6,10 @@ use Prim.Native.Nat.{ℕ, _+_, _*_, _<_, _≤_}
 use lib.ListN.{length, getD}
 use lib.Dec.{leb}
 use Rattle.base.specs.Lists.{every}
-use Rattle.base.specs.Fill.{Filled}
+use Rattle.base.specs.Contracts.{Filled}
 use Rattle.table.specs.Table.{maxColumns, maxCells, maxEntries, maxDenominator, maxExpected, places, total}
 use Rattle.table.specs.Whole.{down, up}
-use Rattle.table.specs.Shape.{Shape, Reach}
+use Rattle.table.specs.Contracts.{Shape, Reach}
 use Rattle.opening.specs.declared.lines.Lines.{Lines}
 use Rattle.opening.specs.Open.{heldTo}
 

@@ -62,6 +62,13 @@ abbrev pub openedNumber : Opened → ℕ
 openedNumber (opened.Plan s) = 0
 openedNumber (opened.Refused x) = numberOf x
 
+-- The refusals of a call that takes a plan and writes `need` numbers into a buffer of `room`: those of opening, 5 and 6; 7, the buffer is too short
+abbrev pub partTests : List ℕ → ℕ → ℕ → List Test
+partTests b need room = openTests b ++ (refuse Buffer (ltb room need) ∷ [])
+
+unfoldable pub partRefusal : List ℕ → ℕ → ℕ → Option Refusal
+partRefusal b need room = due (partTests b need room)
+
 -- the refusals of the call "draw", with a buffer of `room` counts: those of opening; 7, the buffer is shorter than the array; 8, the number is not below D
 abbrev pub drawTests : List ℕ → ℕ → ℕ → List Test
 drawTests b d room =

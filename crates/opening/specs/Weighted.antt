@@ -6,7 +6,7 @@ use Prim.Native.Nat.{ℕ, _+_, _*_, _<_, _≤_}
 use lib.ListN.{length, getD}
 use lib.Dec.{eqb}
 use Rattle.base.specs.Lists.{every}
-use Rattle.base.specs.Fill.{Filled}
+use Rattle.base.specs.Contracts.{Filled}
 use Rattle.table.specs.Table.{maxCells}
 
 -- the largest product of a number of 32 bits and a count

@@ -2,8 +2,8 @@
 ghost use mathlib.Core.Path.{_≡_};
 ghost use Rattle.form.specs.Form.{decode};
 ghost use Rattle.opening.specs.Open.{consistent};
-ghost use Rattle.form.specs.Parts.{Sized};
-ghost use Rattle.opening.specs.Parts.{weightsRight, arraysRight, ArraysTo, ArrayTo, ArrayTested, ArraysTested, TableOf};
+ghost use Rattle.form.specs.Contracts.{Sized};
+ghost use Rattle.opening.specs.Contracts.{weightsRight, arraysRight, ArraysTo, ArrayTo, ArrayTested, ArraysTested, TableOf};
 use crate::lines::bounds;
 use crate::lines::held;
 use crate::weighted::add_weighted;

@@ -5,7 +5,7 @@ ghost use Rattle.base.specs.Buffers.{written};
 ghost use Rattle.refusals.specs.Due.{Answers};
 ghost use Rattle.form.specs.Form.{decode};
 ghost use Rattle.opening.specs.Open.{drawRefusal, drawnArray, Drawing};
-ghost use Rattle.opening.specs.Parts.{Belongs, Drawable};
+ghost use Rattle.opening.specs.Contracts.{Belongs, Drawable};
 use crate::Opened;
 use crate::open::open;
 use form::Sizes;

@@ -2,7 +2,7 @@
 ghost use mathlib.Core.Path.{_≡_};
 ghost use lib.ListN.{length};
 ghost use Rattle.table.specs.Table.{places, total};
-ghost use Rattle.table.specs.Shape.{Reach};
+ghost use Rattle.table.specs.Contracts.{Reach};
 ghost use Rattle.opening.specs.Lines.{linePlaces, cellLines, rowLines, columnLines, grandLines, BoundsReady, KindReady, BoundsFrom, Bounds, oneOutside, linesBetween, entriesBetween, KindHeld, Counts};
 use base::convert::u8_to_u64;
 use base::convert::u16_to_u32;

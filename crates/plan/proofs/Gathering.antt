@@ -11,19 +11,19 @@ use lib.Seq.{getD-append-seam}
 use mir.Val.{Fits}
 use mir.Syntax.{w64}
 use Rattle.table.specs.Table.{maxArrays}
-use Rattle.grid.specs.Grid.{gridOf}
-use Rattle.table.specs.Shape.{IsTable}
-use Rattle.base.specs.Fill.{Filled}
+use Rattle.grid.specs.Contracts.{gridOf}
+use Rattle.table.specs.Contracts.{IsTable}
+use Rattle.base.specs.Contracts.{Filled}
 use Rattle.base.proofs.Lists.{each-more}
 use Rattle.table.proofs.Sizes.{few-cells}
 use Rattle.rounding.specs.Rounding.{firstRounding}
-use Rattle.rounding.specs.Lines.{gridCell, Ready}
+use Rattle.rounding.specs.Contracts.{gridCell, Ready}
 use Rattle.rounding.proofs.Calls.{cell-of-grid, rounding-ready}
 use Rattle.form.specs.Plan.{Weighted, arrayAt}
-use Rattle.rounds.specs.Grids.{RoundDone}
-use Rattle.rounds.proofs.Progressing.{nextWeighted, nextArray}
-use Rattle.rounds.proofs.Reaching.{reached-start, weight-left, few-before, rounds-table, array-shape, weight-is, array-is, weight-most, reached-step}
-use Rattle.plan.specs.Grids.{maxCounts, Gathered}
+use Rattle.planning.specs.Contracts.{RoundDone}
+use Rattle.planning.proofs.Progressing.{nextWeighted, nextArray}
+use Rattle.planning.proofs.Reaching.{reached-start, weight-left, few-before, rounds-table, array-shape, weight-is, array-is, weight-most, reached-step}
+use Rattle.plan.specs.Contracts.{maxCounts, Gathered}
 
 pub gathered-start : {r c d : ℕ} {g : List ℕ} (e weights counts : List ℕ) → IsTable r c d g → length weights ≡ maxArrays → length counts ≡ maxCounts → e ≡ gridOf r c g
     → Gathered r c d g d 0 e weights counts

@@ -14,7 +14,7 @@ use Rattle.refusals.specs.declared.Refusal.the-variants.{Buffer}
 use Rattle.refusals.specs.Due.{refusedOr, after}
 use Rattle.refusals.proofs.Dues.{first-none}
 use Rattle.refusals.proofs.Numbering.{number-small}
-use Rattle.table.specs.Shape.{IsTable}
+use Rattle.table.specs.Contracts.{IsTable}
 use Rattle.table.specs.Check.{tableTests, tableRefusal, checkOf}
 use Rattle.table.specs.declared.Table.{Table}
 use Rattle.table.specs.declared.Checked.{Checked}
@@ -24,13 +24,13 @@ use Rattle.table.proofs.Sizes.{few-cells}
 use Rattle.table.proofs.Tables.{table-accepted, taken, not-taken, refused-table, refused-buffer, refused-nothing}
 use Rattle.form.specs.Plan.{Plan}
 use Rattle.form.specs.Form.{planLength, encode}
-use Rattle.form.specs.Parts.{Bounded}
+use Rattle.form.specs.Contracts.{Bounded}
 use Rattle.form.proofs.Layouts.{plan-most}
-use Rattle.writing.specs.Write.{bufferedPlan, Writable}
+use Rattle.writing.specs.Contracts.{bufferedPlan, Writable}
 use Rattle.plan.specs.declared.Planned.{Planned}
 use Rattle.plan.specs.declared.Planned.the-variants.{Length, Refused}
 use Rattle.plan.specs.Call.{planBytes, planRefusal, planAnswer, PlanAnswers, Apart}
-use Rattle.plan.specs.Grids.{AllGathered}
+use Rattle.plan.specs.Contracts.{AllGathered}
 use Rattle.plan.proofs.Planning.{promised, gathered-sizes, gathered-length, plan-held}
 
 -- the answer and the buffer, by what is due

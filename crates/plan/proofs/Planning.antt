@@ -14,7 +14,7 @@ use Rattle.base.proofs.Sums.{list-ext}
 use Rattle.base.specs.Lists.{tabulate, sum, all}
 use Rattle.table.specs.Table.{total, cellPlaces}
 use Rattle.table.specs.Whole.{up}
-use Rattle.table.specs.Shape.{IsTable}
+use Rattle.table.specs.Contracts.{IsTable}
 use Rattle.base.proofs.Lists.{and-right, and-both, all-intro, all-elim, all-tabulate}
 use Rattle.table.proofs.Sizes.{place-of, shape-of}
 use Rattle.grid.proofs.GridSums.{cell-at}
@@ -23,22 +23,22 @@ use Rattle.rounding.proofs.Roundings.{rounding-length}
 use Rattle.form.specs.Plan.{Weighted, arrayAt}
 use Rattle.form.specs.Form.{planLength, decode}
 use Rattle.opening.specs.Open.{held, weighted, consistent, Opens}
-use Rattle.writing.specs.Write.{bufferedArray, bufferedPlan}
-use Rattle.form.specs.Parts.{Bounded}
+use Rattle.writing.specs.Contracts.{bufferedArray, bufferedPlan}
+use Rattle.form.specs.Contracts.{Bounded}
 use Rattle.form.proofs.Decodings.{WellShaped, decode-encode, encode-laid-out}
 use Rattle.form.proofs.Encodings.{encode-length}
 use Rattle.opening.proofs.Opening.{opens-by}
 use Rattle.form.proofs.Layouts.{plan-least, plan-most}
-use Rattle.rounds.specs.Rounds.{planRounds, arraysIn, planOf}
+use Rattle.planning.specs.Rounds.{planRounds, arraysIn, planOf}
 use Rattle.plan.specs.Call.{planBytes}
-use Rattle.rounds.specs.Progress.{Progress}
-use Rattle.plan.specs.Grids.{AllGathered}
+use Rattle.planning.specs.Contracts.{Progress}
+use Rattle.plan.specs.Contracts.{AllGathered}
 use Rattle.plan.specs.Promises.{Promises}
-use Rattle.rounds.proofs.GridMembers.{cell-in}
+use Rattle.planning.proofs.GridMembers.{cell-in}
 use Rattle.table.proofs.Totals.{total-cell}
-use Rattle.rounds.proofs.Progressing.{progress-end, end-rounds, ended}
+use Rattle.planning.proofs.Progressing.{progress-end, end-rounds, ended}
 use Rattle.rounding.proofs.Calls.{array-small}
-use Rattle.rounds.proofs.Reaching.{few-not-whole}
+use Rattle.planning.proofs.Reaching.{few-not-whole}
 
 -- a number of a list is at most its sum
 at-most-sum : (f : Weighted → ℕ) → f (record { weight = 0; counts = [] }) ≡ 0 → (l : List Weighted) (i : ℕ) → f (arrayAt l i) ≤ sum (map f l)

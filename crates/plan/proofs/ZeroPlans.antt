@@ -8,16 +8,16 @@ use lib.ListN.{getD, replicate, length-replicate}
 use borrow.Author.Tests.{eq-eqb}
 use Rattle.table.specs.Table.{total, entryPlaces}
 use Rattle.table.specs.Whole.{roundsTo}
-use Rattle.table.specs.Shape.{Shape}
+use Rattle.table.specs.Contracts.{Shape}
 use Rattle.base.proofs.Lists.{and-both, all-of-members}
 use Rattle.table.proofs.Roundings.{rounds}
 use Rattle.rounding.specs.Rounding.{isRounding, IsFirst, firstRounding}
 use Rattle.rounding.proofs.Orders.{before-at}
 use Rattle.rounding.proofs.Roundings.{first-is}
-use Rattle.rounds.specs.Rounds.{limitOf, weightOf, without, Round, roundsFrom, arraysIn, planOf}
-use Rattle.rounds.proofs.OneRound.{attains}
+use Rattle.planning.specs.Rounds.{limitOf, weightOf, without, Round, roundsFrom, arraysIn, planOf}
+use Rattle.planning.proofs.OneRound.{attains}
 use Rattle.plan.proofs.Planning.{total-of-zeros}
-use Rattle.rounds.proofs.Progressing.{no-more}
+use Rattle.planning.proofs.Progressing.{no-more}
 
 zero-at : (n i : ℕ) → _≡_ {A = ℕ} (getD (replicate n 0) i 0) 0
 zero-at zero i = refl

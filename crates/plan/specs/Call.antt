@@ -14,7 +14,7 @@ use Rattle.table.specs.Check.{tableTests}
 use Rattle.form.specs.Form.{minLength, encode}
 use Rattle.plan.specs.declared.Planned.{Planned}
 use Rattle.plan.specs.declared.Planned.the-variants.{Length, Refused}
-use Rattle.rounds.specs.Rounds.{planOf}
+use Rattle.planning.specs.Rounds.{planOf}
 
 -- the stored plan of a table
 unfoldable pub planBytes : ℕ → ℕ → ℕ → List ℕ → List ℕ

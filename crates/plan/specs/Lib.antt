@@ -1,4 +1,4 @@
 pub mod Call
-pub mod Examples
-pub mod Grids
 pub mod Promises
+pub mod Contracts
+pub mod Examples

@@ -10,7 +10,7 @@ use Rattle.table.specs.Table.{total, maxArrays}
 use Rattle.rounding.specs.Rounding.{isRounding}
 use Rattle.form.specs.Form.{minLength, maxLength, planLength, decode}
 use Rattle.opening.specs.Open.{Opens}
-use Rattle.rounds.specs.Rounds.{planOf, AreRounds, notWhole}
+use Rattle.planning.specs.Rounds.{planOf, AreRounds, notWhole}
 use Rattle.plan.specs.Call.{planBytes}
 
 pub record Promises (r c d : ℕ) (g : List ℕ) : Type 0 where

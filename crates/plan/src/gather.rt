@@ -1,9 +1,9 @@
 // All rounds of the plan of an accepted table.
-ghost use Rattle.plan.specs.Grids.{RoundsReady, AllGathered};
+ghost use Rattle.plan.specs.Contracts.{RoundsReady, AllGathered};
 use base::convert::u64_to_u32;
 use grid::entries;
 use rounding::write::write_cells;
-use rounds::round::one_round;
+use planning::round::one_round;
 use table::Table;
 
 // The rounds until no weight is left: each array's weight and counts, one after another, and how many there are.

@@ -4,7 +4,7 @@ ghost use mathlib.Core.List.{List, map};
 ghost use mathlib.Core.Option.{none};
 ghost use Prim.Native.Nat.{ℕ};
 ghost use Rattle.table.specs.Check.{tableRefusal};
-ghost use Rattle.table.specs.Shape.{IsTable};
+ghost use Rattle.table.specs.Contracts.{IsTable};
 ghost use Rattle.plan.specs.Call.{PlanAnswers, plannedNumber};
 ghost use Rattle.plan.specs.Examples.{calls, planned, said};
 ghost use Rattle.plan.specs.Promises.{Promises};

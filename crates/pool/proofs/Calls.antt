@@ -18,12 +18,12 @@ use Rattle.refusals.specs.Due.{refuse, due, Answers}
 use Rattle.refusals.proofs.Dues.{due-first, due-second, refused-so, accepted-so}
 use Rattle.table.specs.Check.{cellsWithin}
 use Rattle.multiples.specs.Multiple.{leastMultiple}
-use Rattle.pool.specs.declared.parts.Pair.{Pair}
-use Rattle.pool.specs.declared.parts.Parts.{Parts}
-use Rattle.pool.specs.declared.parts.Parts.the-variants.{Accepted, Refused}
+use Rattle.pool.specs.declared.check.Pair.{Pair}
+use Rattle.pool.specs.declared.check.Parts.{Parts}
+use Rattle.pool.specs.declared.check.Parts.the-variants.{Accepted, Refused}
 use Rattle.pool.specs.declared.Scale.{Scale}
 use Rattle.pool.specs.Pool.{pooledCells, partsTests, poolingTests, poolingRefusal, poolRefusal, Lent, lent, pooledInto}
-use Rattle.pool.specs.Parts.{partsAnswer, Denominators, scaleOf, Scaled, Writable}
+use Rattle.pool.specs.Contracts.{partsAnswer, Denominators, scaleOf, Scaled, Writable}
 use Rattle.pool.proofs.Checking.{Both, both, PairTaken, parts-refused, parts-taken}
 use Rattle.pool.proofs.Scales.{cellsOf, scale-scaled}
 use Rattle.pool.proofs.Pooling.{multiple-due, cell-due, nothing-due}

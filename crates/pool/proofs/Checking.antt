@@ -11,7 +11,7 @@ use Rattle.refusals.specs.declared.Refusal.{Refusal}
 use Rattle.refusals.specs.Due.{due, refusedOr}
 use Rattle.refusals.specs.Either.{lowerOf}
 use Rattle.refusals.proofs.Eithers.{Alike, no-rows, row, lowerDue, either-due}
-use Rattle.table.specs.Shape.{IsTable}
+use Rattle.table.specs.Contracts.{IsTable}
 use Rattle.table.specs.Check.{tableTests, tableRefusal, checkOf}
 use Rattle.table.specs.declared.Table.{Table}
 use Rattle.table.specs.declared.Checked.{Checked}
@@ -19,11 +19,11 @@ use Rattle.table.specs.declared.Checked.the-variants as checked
 use Rattle.table.proofs.Checks.{passed-all}
 use Rattle.table.proofs.Tables.{taken, not-taken}
 use Rattle.table.proofs.Totals.{small-product}
-use Rattle.pool.specs.declared.parts.Pair.{Pair}
-use Rattle.pool.specs.declared.parts.Parts.{Parts}
-use Rattle.pool.specs.declared.parts.Parts.the-variants.{Accepted, Refused}
+use Rattle.pool.specs.declared.check.Pair.{Pair}
+use Rattle.pool.specs.declared.check.Parts.{Parts}
+use Rattle.pool.specs.declared.check.Parts.the-variants.{Accepted, Refused}
 use Rattle.pool.specs.Pool.{partsTests}
-use Rattle.pool.specs.Parts.{partsAnswer}
+use Rattle.pool.specs.Contracts.{partsAnswer}
 
 -- the number of an accepted table's cells fits
 pub product-fits : (r c d : ℕ) (g : List ℕ) {k : Checked} {t : Table} → k ≡ checkOf r c d g → k ≡ checked.Accepted t → Fits w64 (t .rows * t .columns)

@@ -16,7 +16,7 @@ use Rattle.refusals.specs.declared.Refusal.the-variants.{Multiple, PooledCell}
 use Rattle.refusals.specs.Due.{Test, refuse, due}
 use Rattle.refusals.proofs.Dues.{due-here, due-next, due-second, first-none, not-here, not-later}
 use Rattle.table.specs.Table.{total}
-use Rattle.table.specs.Shape.{IsTable}
+use Rattle.table.specs.Contracts.{IsTable}
 use Rattle.table.specs.Check.{cellsWithin}
 use Rattle.table.proofs.Sizes.{shape-of}
 use Rattle.table.proofs.Tables.{table-accepted}

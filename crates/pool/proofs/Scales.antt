@@ -10,7 +10,7 @@ use borrow.Author.Tests.{leb-true}
 use mir.Val.{Fits}
 use mir.Syntax.{w64}
 use Rattle.base.specs.Buffers.{written}
-use Rattle.base.specs.Fill.{Filled}
+use Rattle.base.specs.Contracts.{Filled}
 use Rattle.base.proofs.Zips.{zip-length, zip-at}
 use Rattle.base.proofs.Lists.{all-elim}
 use Rattle.base.proofs.Tabulated.{tabulate-getD}
@@ -18,11 +18,11 @@ use Rattle.base.proofs.Filling.{front-more, front-all}
 use Rattle.table.specs.Check.{cellsWithin}
 use Rattle.table.proofs.Checks.{Within, within-more, within-all, within-not}
 use Rattle.multiples.specs.Multiple.{leastMultiple}
-use Rattle.multiples.specs.Divisor.{Multipliable}
+use Rattle.multiples.specs.Contracts.{Multipliable}
 use Rattle.multiples.proofs.Multiples.{multiple-small}
 use Rattle.pool.specs.declared.Scale.{Scale}
 use Rattle.pool.specs.Pool.{scaledCells}
-use Rattle.pool.specs.Parts.{Denominators, scaleOf, Scaled, Writable}
+use Rattle.pool.specs.Contracts.{Denominators, scaleOf, Scaled, Writable}
 
 -- the scale of two denominators
 module _ {d e : ℕ} (s : Denominators d e) where

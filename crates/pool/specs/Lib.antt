@@ -1,4 +1,4 @@
 pub mod Pool
 pub mod Promises
-pub mod Parts
+pub mod Contracts
 pub mod Examples

@@ -4,7 +4,7 @@ ghost use Prim.Native.Nat.{_+_, _*_};
 ghost use Rattle.base.specs.Buffers.{written};
 ghost use Rattle.table.specs.Check.{cellsWithin};
 ghost use Rattle.pool.specs.Pool.{scaledCells};
-ghost use Rattle.pool.specs.Parts.{Factors, Scaled, Writable};
+ghost use Rattle.pool.specs.Contracts.{Factors, Scaled, Writable};
 use crate::Scale;
 use base::convert::u64_to_u32;
 use base::wide;

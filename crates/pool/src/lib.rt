@@ -7,13 +7,13 @@ ghost use lib.ListN.{length};
 ghost use Rattle.refusals.specs.Due.{Answers};
 ghost use Rattle.pool.specs.Pool.{poolingRefusal, poolRefusal, lent, pooledInto};
 ghost use Rattle.pool.specs.Promises.{Pools};
-ghost use Rattle.pool.specs.Parts.{Denominators, scaleOf};
+ghost use Rattle.pool.specs.Contracts.{Denominators, scaleOf};
 ghost use Rattle.pool.specs.Examples.{cases, pooled, said};
 use crate::cells::pooled_within;
 use crate::cells::write_pooled;
-use crate::parts::Pair;
-use crate::parts::Parts;
-use crate::parts::check_parts;
+use crate::check::Pair;
+use crate::check::Parts;
+use crate::check::check_parts;
 use base::convert::u64_to_u32;
 use multiples::lcm;
 use refusals::Answer;
@@ -21,7 +21,7 @@ use refusals::Refusal;
 use table::Table;
 
 mod cells;
-mod parts;
+mod check;
 
 // How two tables are pooled: the number of their cells, the pooled denominator, and by what the cells of the first and of the second are multiplied.
 pub struct Scale {

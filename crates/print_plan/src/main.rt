@@ -1,8 +1,8 @@
-// Prints the plan of the table on standard input, or why there is none; `text::output` says what is printed.
+// Prints the plan of the table on standard input, or why there is none; `plan_text::output` says what is printed.
 use libc::STDIN_FILENO;
 use libc::STDOUT_FILENO;
-use text::MAX_LISTING;
-use text::output::output;
+use plan_text::MAX_LISTING;
+use plan_text::output::output;
 
 fn main() {
     // One byte more than a text may have, so that a longer input is refused.

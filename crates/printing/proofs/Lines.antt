@@ -8,7 +8,8 @@ use lib.ListN.{length, getD, take}
 use lib.Seq.{take-length}
 use Rattle.base.specs.Lists.{joinTo}
 use Rattle.printing.specs.Lines.{decimal, spaced, line, refusedWord, refused}
-use Rattle.printing.specs.Write.{Room, Wrote, gapBefore}
+use Rattle.printing.specs.Contracts.{Room, gapBefore}
+use Rattle.printing.specs.Write.{Wrote}
 use Rattle.printing.proofs.Writes.{room-first, room-then, wrote-then, Writing, writing-none, writing-all, writing-room, writing-more}
 
 -- parts that are joined, and one before them

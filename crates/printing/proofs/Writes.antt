@@ -11,7 +11,8 @@ use lib.Seq.{take-suc, take-length, length-take-le}
 use Rattle.base.specs.Lists.{joinTo}
 use Rattle.base.proofs.Puts.{length-put, put-then, put-start, put-one, put-nothing}
 use Rattle.printing.specs.Lines.{decimal}
-use Rattle.printing.specs.Write.{Room, Wrote, gapBefore}
+use Rattle.printing.specs.Contracts.{Room, gapBefore}
+use Rattle.printing.specs.Write.{Wrote}
 use Rattle.printing.proofs.Decimals.{decimal-small, decimal-more}
 
 module _ (out : List ℕ) (at : ℕ) where

@@ -1,3 +1,4 @@
 pub mod Lines
 pub mod Write
+pub mod Contracts
 pub mod Examples

@@ -1,7 +1,8 @@
 // Printing lines of numbers, and refusals.
 ghost use Rattle.refusals.specs.Numbers.{numberOf};
 ghost use Rattle.printing.specs.Lines.{line, refused};
-ghost use Rattle.printing.specs.Write.{Room, Wrote};
+ghost use Rattle.printing.specs.Contracts.{Room};
+ghost use Rattle.printing.specs.Write.{Wrote};
 use crate::write::put_bytes;
 use crate::write::put_decimal;
 use crate::write::put_number;

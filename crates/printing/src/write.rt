@@ -3,7 +3,8 @@ ghost use mathlib.Core.List.{[], _∷_, _++_};
 ghost use Prim.Native.Nat.{_+_, _≤_};
 ghost use lib.ListN.{length};
 ghost use Rattle.printing.specs.Lines.{decimal};
-ghost use Rattle.printing.specs.Write.{Room, Wrote, gapBefore};
+ghost use Rattle.printing.specs.Contracts.{Room, gapBefore};
+ghost use Rattle.printing.specs.Write.{Wrote};
 
 pub fn put_byte(out: &mut [u8], at: usize, b: u8) -> usize
     requires { ⌜ at + 1 ≤ length (now out) ⌝ }

@@ -2,12 +2,12 @@
 use mathlib.Core.Path.{_≡_, sym, _∙_}
 use Prim.Native.Nat.{ℕ, _+_, _/_, _%_, _<_, _≤_}
 use borrow.Author.Tests.{lt-ltb, le-ltb, eq-eqb, ne-eqb}
-use Rattle.table.specs.Divide.{Divides}
+use Rattle.table.specs.Contracts.{Divides}
 use Rattle.table.specs.declared.whole.Divided.{Divided}
 use Rattle.reasons.specs.declared.Entry.{Entry}
 use Rattle.reasons.specs.declared.Entry.the-variants.{Cell, RowTotal, ColumnTotal, GrandTotal}
 use Rattle.reasons.specs.declared.Reply.the-variants.{Down, Up, AllWhole}
-use Rattle.reasons.specs.Grids.{entryAt, directed}
+use Rattle.reasons.specs.Contracts.{entryAt, directed}
 
 module _ (k : ℕ) where
   module _ (h : k / 13 < 12) where

@@ -6,10 +6,10 @@ use Rattle.base.specs.Search.{firstThat}
 use Rattle.refusals.specs.Due.{due, answerOf, after}
 use Rattle.table.specs.Table.{total, entryPlaces}
 use Rattle.table.specs.Whole.{whole, gap, roundsTo}
-use Rattle.order.specs.Order.{nthRow, nthColumn, rank}
+use Rattle.cell_order.specs.Order.{nthRow, nthColumn, rank}
 use Rattle.rounding.specs.Order.{inOrder, arrayOf, firstOf}
 use Rattle.rounding.specs.Rounding.{isRounding, firstRounding}
-use Rattle.rounds.specs.Rounds.{limitOf, weightOf, without, roundsFrom, planOf}
+use Rattle.planning.specs.Rounds.{limitOf, weightOf, without, roundsFrom, planOf}
 use Rattle.reasons.specs.Reason.{namedEntries, setBy, allWhole, reasonOf}
 use Rattle.reasons.specs.Call.{reasonRefusal, reasonAnswer, replyRefusal}
 use Rattle.reasons.specs.Examples.{calls, replied, said}

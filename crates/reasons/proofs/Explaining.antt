@@ -16,17 +16,17 @@ use Rattle.refusals.specs.Due.{due}
 use Rattle.refusals.proofs.Dues.{first-none}
 use Rattle.table.specs.Table.{total, cellPlaces, entryPlaces}
 use Rattle.table.specs.Whole.{down}
-use Rattle.table.specs.Shape.{Shape, IsTable}
+use Rattle.table.specs.Contracts.{Shape, IsTable}
 use Rattle.table.specs.Check.{tableTests, tableRefusal}
 use Rattle.table.proofs.Checks.{passed-all}
 use Rattle.table.proofs.Roundings.{rounds-low, rounds-high, gap-le}
 use Rattle.rounding.specs.Rounding.{isRounding, firstRounding}
 use Rattle.rounding.proofs.Existence.{first-exists}
-use Rattle.rounds.specs.Rounds.{limitOf, weightOf, Round, roundOn, planRounds, planOf}
-use Rattle.rounds.proofs.Entries.{limit-high}
-use Rattle.rounds.proofs.GridMembers.{cell-in}
-use Rattle.rounds.proofs.OneRound.{entry-rounds, attains, weight-most, weight-high}
-use Rattle.rounds.proofs.Progressing.{Begins, begins, round-is, more-rounds, all-rounds, progress-step, nextWeight}
+use Rattle.planning.specs.Rounds.{limitOf, weightOf, Round, roundOn, planRounds, planOf}
+use Rattle.planning.proofs.Entries.{limit-high}
+use Rattle.planning.proofs.GridMembers.{cell-in}
+use Rattle.planning.proofs.OneRound.{entry-rounds, attains, weight-most, weight-high}
+use Rattle.planning.proofs.Progressing.{Begins, begins, round-is, more-rounds, all-rounds, progress-step, nextWeight}
 use Rattle.reasons.specs.declared.Entry.{Entry}
 use Rattle.reasons.specs.declared.Entry.the-variants.{Cell, GrandTotal}
 use Rattle.reasons.specs.declared.Reply.the-variants.{Down, Up, AllWhole}

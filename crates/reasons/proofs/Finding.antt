@@ -12,20 +12,20 @@ use mir.Syntax.{w32}
 use Rattle.refusals.specs.declared.Refusal.the-variants.{Array}
 use Rattle.refusals.specs.Due.{refuse, due, refusedOr}
 use Rattle.refusals.proofs.Dues.{due-second}
-use Rattle.table.specs.Shape.{Shape, IsTable}
+use Rattle.table.specs.Contracts.{Shape, IsTable}
 use Rattle.table.specs.Check.{upTo, tableTests, tableRefusal}
 use Rattle.table.proofs.Checks.{too-small, inside, too-large}
 use Rattle.table.proofs.Tables.{table-accepted}
-use Rattle.grid.specs.Grid.{gridOf}
-use Rattle.rounds.specs.Rounds.{Round, roundOn, planRounds, planOf}
-use Rattle.rounds.specs.Grids.{RoundReady, RoundDone, Reached}
-use Rattle.rounds.proofs.Progressing.{round-is, more-rounds, all-rounds}
-use Rattle.rounds.proofs.Reaching.{reached-start, reached-step, entries-left, weight-left, few-before, weight-most as reached-most, less-left as reached-less}
+use Rattle.grid.specs.Contracts.{gridOf}
+use Rattle.planning.specs.Rounds.{Round, roundOn, planRounds, planOf}
+use Rattle.planning.specs.Contracts.{RoundReady, RoundDone, Reached}
+use Rattle.planning.proofs.Progressing.{round-is, more-rounds, all-rounds}
+use Rattle.planning.proofs.Reaching.{reached-start, reached-step, entries-left, weight-left, few-before, weight-most as reached-most, less-left as reached-less}
 use Rattle.reasons.specs.declared.Reply.{Reply}
 use Rattle.reasons.specs.declared.Reply.the-variants.{Refused}
 use Rattle.reasons.specs.Reason.{reasonOf}
 use Rattle.reasons.specs.Call.{roundAt, reasonRefusal, reasonAnswer}
-use Rattle.reasons.specs.Grids.{Remains}
+use Rattle.reasons.specs.Contracts.{Remains}
 
 -- as many arrays as rounds
 pub arrays-are-rounds : (r c d : ℕ) (g : List ℕ) → length (planOf r c d g .arrays) ≡ length (planRounds r c d g)

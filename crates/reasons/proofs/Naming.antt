@@ -10,14 +10,14 @@ use borrow.Author.Tests.{lt-ltb}
 use Rattle.base.specs.Lists.{tabulate}
 use Rattle.base.proofs.Lists.{tabulate-ext, map-tabulate, tabulate-member}
 use Rattle.table.specs.Table.{cellPlaces, rowPlaces, columnPlaces, entryPlaces}
-use Rattle.table.specs.Shape.{Shape}
+use Rattle.table.specs.Contracts.{Shape}
 use Rattle.table.proofs.Sizes.{place-of}
-use Rattle.grid.specs.Grid.{gridPlaces, gridPlace, gridOrder}
+use Rattle.grid.specs.Contracts.{gridPlaces, gridPlace, gridOrder}
 use Rattle.grid.proofs.GridPlaces.{grid-cell, grid-row, grid-column, grid-grand}
 use Rattle.reasons.specs.declared.Entry.{Entry}
 use Rattle.reasons.specs.declared.Entry.the-variants.{Cell, RowTotal, ColumnTotal}
 use Rattle.reasons.specs.Reason.{namedEntries, placesOf}
-use Rattle.reasons.specs.Grids.{entryAt}
+use Rattle.reasons.specs.Contracts.{entryAt}
 
 -- counted from 1 and back
 back : (i : ℕ) → i + 1 - 1 ≡ i

@@ -16,7 +16,7 @@ use Rattle.refusals.proofs.Dues.{due-first, due-second, refused-so, accepted-so
 use Rattle.table.specs.declared.Table.{Table}
 use Rattle.table.specs.declared.Checked.{Checked}
 use Rattle.table.specs.declared.Checked.the-variants as checked
-use Rattle.table.specs.Shape.{IsTable}
+use Rattle.table.specs.Contracts.{IsTable}
 use Rattle.table.specs.Check.{tableTests, tableRefusal, checkOf}
 use Rattle.table.proofs.Tables.{taken, not-taken}
 use Rattle.reasons.specs.declared.Entry.{Entry}

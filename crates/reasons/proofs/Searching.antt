@@ -15,10 +15,10 @@ use Rattle.base.specs.Lists.{tabulate}
 use Rattle.base.specs.Search.{firstThat}
 use Rattle.base.proofs.Lists.{tabulate-ext}
 use Rattle.base.proofs.Searches.{first-append, first-at, first-none}
-use Rattle.grid.specs.Grid.{gridPlace, gridOrder}
+use Rattle.grid.specs.Contracts.{gridPlace, gridOrder}
 use Rattle.reasons.specs.declared.search.Found.{Found}
 use Rattle.reasons.specs.declared.search.Found.the-variants.{At, Nowhere}
-use Rattle.reasons.specs.Grids.{Block, block, InGrid, blockPlace, blockPlaces, holds, foundOr, Sizes}
+use Rattle.reasons.specs.Contracts.{Block, block, InGrid, blockPlace, blockPlaces, holds, foundOr, Sizes}
 
 -- none of the first m places of a block holds x
 abbrev pub NoneTo : List ℕ → ℕ → Block → ℕ → Type 0

@@ -4,7 +4,7 @@ use mathlib.Core.Bool.{Bool, true, false, cond}
 use Prim.Native.Nat.{ℕ}
 use lib.Dec.{eqb}
 use Rattle.table.specs.Whole.{down}
-use Rattle.rounds.specs.Rounds.{Round}
+use Rattle.planning.specs.Rounds.{Round}
 use Rattle.reasons.specs.declared.Entry.{Entry}
 use Rattle.reasons.specs.declared.Reply.{Reply}
 use Rattle.reasons.specs.declared.Reply.the-variants.{Down, Up, AllWhole, Refused}

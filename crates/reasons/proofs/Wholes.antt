@@ -11,12 +11,12 @@ use borrow.Author.Tests.{eq-eqb, ne-eqb, eqb-true}
 use Rattle.base.proofs.Lists.{all-at-member, all-of-members}
 use Rattle.table.specs.Table.{total, entryPlaces}
 use Rattle.table.specs.Whole.{whole, roundsTo}
-use Rattle.table.specs.Shape.{Shape}
+use Rattle.table.specs.Contracts.{Shape}
 use Rattle.rounding.specs.Rounding.{isRounding, firstRounding}
 use Rattle.rounding.proofs.Existence.{first-exists}
-use Rattle.rounds.specs.Rounds.{limitOf, weightOf, roundOn}
-use Rattle.rounds.proofs.Entries.{Side, below, above, side, limit-high}
-use Rattle.rounds.proofs.OneRound.{entry-rounds, attains, weight-most}
+use Rattle.planning.specs.Rounds.{limitOf, weightOf, roundOn}
+use Rattle.planning.proofs.Entries.{Side, below, above, side, limit-high}
+use Rattle.planning.proofs.OneRound.{entry-rounds, attains, weight-most}
 use Rattle.reasons.specs.Reason.{allWhole}
 
 -- one entry: whole just if its limit is w

@@ -9,7 +9,7 @@ use Rattle.refusals.specs.declared.Refusal.{Refusal}
 use Rattle.refusals.specs.declared.Refusal.the-variants.{Array, Buffer}
 use Rattle.refusals.specs.Due.{Test, refuse, due, refusedOr}
 use Rattle.table.specs.Check.{upTo, tableTests}
-use Rattle.rounds.specs.Rounds.{Round, planRounds, planOf}
+use Rattle.planning.specs.Rounds.{Round, planRounds, planOf}
 use Rattle.reasons.specs.declared.Entry.{Entry}
 use Rattle.reasons.specs.declared.Entry.the-variants.{Cell, RowTotal, ColumnTotal, GrandTotal}
 use Rattle.reasons.specs.declared.Reply.{Reply}

@@ -6,7 +6,7 @@ use lib.ListN.{length}
 use Rattle.base.specs.Search.{FirstOf}
 use Rattle.table.specs.Whole.{down}
 use Rattle.form.specs.Plan.{arrayAt}
-use Rattle.rounds.specs.Rounds.{planOf}
+use Rattle.planning.specs.Rounds.{planOf}
 use Rattle.reasons.specs.declared.Entry.{Entry}
 use Rattle.reasons.specs.declared.Entry.the-variants.{Cell}
 use Rattle.reasons.specs.declared.Reply.the-variants.{Down, Up, AllWhole}

@@ -1,5 +1,5 @@
 pub mod Reason
 pub mod Call
 pub mod Explained
+pub mod Contracts
 pub mod Examples
-pub mod Grids

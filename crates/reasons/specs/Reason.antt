@@ -7,7 +7,7 @@ use Rattle.base.specs.Lists.{tabulate, all}
 use Rattle.base.specs.Search.{firstThat}
 use Rattle.table.specs.Table.{cellPlaces, rowPlaces, columnPlaces, allPlaces, entryPlaces, total}
 use Rattle.table.specs.Whole.{down, whole}
-use Rattle.rounds.specs.Rounds.{limitOf, Round}
+use Rattle.planning.specs.Rounds.{limitOf, Round}
 use Rattle.reasons.specs.declared.Entry.{Entry}
 use Rattle.reasons.specs.declared.Entry.the-variants.{Cell, RowTotal, ColumnTotal, GrandTotal}
 use Rattle.reasons.specs.declared.Reply.{Reply}

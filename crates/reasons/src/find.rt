@@ -2,21 +2,20 @@
 ghost use mathlib.Core.Path.{_≡_};
 ghost use mathlib.Core.List.{List};
 ghost use Prim.Native.Nat.{ℕ};
-ghost use Rattle.table.specs.Divide.{Dividable};
-ghost use Rattle.table.specs.Shape.{Shape, IsTable};
-ghost use Rattle.grid.specs.Grid.{gridOf};
-ghost use Rattle.rounds.specs.Rounds.{roundOn};
+ghost use Rattle.table.specs.Contracts.{Dividable, Shape, IsTable};
+ghost use Rattle.grid.specs.Contracts.{gridOf};
+ghost use Rattle.planning.specs.Rounds.{roundOn};
 ghost use Rattle.reasons.specs.Reason.{reasonOf};
 ghost use Rattle.reasons.specs.Call.{reasonAnswer};
-ghost use Rattle.reasons.specs.Grids.{directed, Remains};
+ghost use Rattle.reasons.specs.Contracts.{directed, Remains};
 use crate::Entry;
 use crate::Reply;
 use crate::search::entry_at;
 use crate::search::first_place;
 use grid::entries;
 use refusals::Refusal;
-use rounds::round::next_array;
-use rounds::round::one_round;
+use planning::round::next_array;
+use planning::round::one_round;
 use table::Table;
 use table::whole::divide;
 

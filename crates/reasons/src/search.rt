@@ -2,8 +2,8 @@
 ghost use mathlib.Core.Path.{_≡_};
 ghost use Prim.Native.Nat.{ℕ, _<_};
 ghost use Rattle.base.specs.Search.{firstThat};
-ghost use Rattle.grid.specs.Grid.{gridOrder};
-ghost use Rattle.reasons.specs.Grids.{block, InGrid, blockPlaces, holds, foundOr, Sizes, entryAt};
+ghost use Rattle.grid.specs.Contracts.{gridOrder};
+ghost use Rattle.reasons.specs.Contracts.{block, InGrid, blockPlaces, holds, foundOr, Sizes, entryAt};
 use crate::Entry;
 
 // What a search of a block finds: a place of the grid.

@@ -17,7 +17,7 @@ use lib.Pow.{pow-mono}
 use mir.Val.{Fits}
 use mir.Syntax.{w8, w32}
 use Rattle.base.proofs.SumLoops.{Summed, summed-more, summed-all}
-use Rattle.records.specs.Parts.{bitsSet}
+use Rattle.records.specs.Contracts.{bitsSet}
 
 -- bit k of a number
 unfoldable bit : ℕ → ℕ → ℕ

@@ -5,7 +5,7 @@ use Prim.Native.Nat.{ℕ, zero, suc, _+_, _<_, _≤_}
 use lib.ListN.{length, set, replicate}
 use Rattle.base.specs.Lists.{tabulate}
 use Rattle.base.specs.Buffers.{written}
-use Rattle.base.specs.Fill.{Filled}
+use Rattle.base.specs.Contracts.{Filled}
 use Rattle.base.proofs.Filling.{front-more, front-all}
 
 -- zeros at the start of a buffer

@@ -11,7 +11,7 @@ use mir.Val.{Fits}
 use mir.Syntax.{w32, w64}
 use borrow.Author.Tests.{le-leb, lt-leb, lt-ltb, le-ltb, eq-eqb, ne-eqb, not-true, not-false}
 use Rattle.base.specs.Lists.{tabulate, sumTo, every}
-use Rattle.base.specs.Fill.{Filled}
+use Rattle.base.specs.Contracts.{Filled}
 use Rattle.base.proofs.Lists.{length-tabulate, getD-tabulate}
 use Rattle.base.proofs.Sums.{sum-ext, sum-mul, sum-ones, sum-term, sum-add-range, sum-places}
 use Rattle.base.proofs.Every.{every-ext, sum-none}
@@ -21,14 +21,14 @@ use Rattle.base.proofs.Buffers.{written-at}
 use Rattle.form.specs.declared.Sizes.{Sizes}
 use Rattle.form.specs.Plan.{Weighted, arrayAt, cellCount, arrayFor}
 use Rattle.form.specs.Form.{decode}
-use Rattle.form.specs.Parts.{HasArray, Sized}
+use Rattle.form.specs.Contracts.{HasArray, Sized}
 use Rattle.form.proofs.Sizing.{arrays-are, denominator-is, sized-arrays, sized-denominator}
-use Rattle.opening.specs.Parts.{weightsBefore, weightAt, factored}
+use Rattle.opening.specs.Contracts.{weightsBefore, weightAt, factored}
 use Rattle.opening.proofs.Belonging.{array-for}
 use Rattle.opening.proofs.Opening.{is-open, opened-sized}
 use Rattle.opening.proofs.Opens.{weights-add-up}
 use Rattle.records.specs.Record.{recordOf, bitOf, bitBytes, spareClear, takenSum, within, fits}
-use Rattle.records.specs.Parts.{bitsSet, Span, takenOf, takenNumbers, Few, Numbered, Tallied, tallyFits, Fitted}
+use Rattle.records.specs.Contracts.{bitsSet, Span, takenOf, takenNumbers, Few, Numbered, Tallied, tallyFits, Fitted}
 use Rattle.records.proofs.Bits.{bit-le}
 
 -- a shorter sum

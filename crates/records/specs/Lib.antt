@@ -1,3 +1,3 @@
 pub mod Record
-pub mod Parts
+pub mod Contracts
 pub mod Examples

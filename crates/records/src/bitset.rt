@@ -4,7 +4,7 @@ ghost use Prim.Native.Nat.{_+_, _*_, _/_, _%_, _^_, _<_, _≤_};
 ghost use lib.ListN.{length, getD, set, replicate};
 ghost use Rattle.base.specs.Buffers.{written};
 ghost use Rattle.records.specs.Record.{bitOf};
-ghost use Rattle.records.specs.Parts.{bitsSet, Span, Unset};
+ghost use Rattle.records.specs.Contracts.{bitsSet, Span, Unset};
 
 // Bit d, 0 or 1.
 pub fn bit(bits: &[u8], d: usize) -> u32

@@ -4,7 +4,7 @@ ghost use lib.ListN.{getD};
 ghost use Rattle.base.specs.Lists.{sumTo};
 ghost use Rattle.form.specs.Form.{decode};
 ghost use Rattle.records.specs.Record.{recordOf, within, fits};
-ghost use Rattle.records.specs.Parts.{Numbered, takenNumbers, Few, Fitted};
+ghost use Rattle.records.specs.Contracts.{Numbered, takenNumbers, Few, Fitted};
 use crate::bitset::bits_set;
 use crate::tally::tally_fits;
 use form::Sizes;

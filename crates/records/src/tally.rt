@@ -2,9 +2,9 @@
 ghost use mathlib.Core.Path.{_≡_};
 ghost use Rattle.form.specs.Plan.{arrayAt};
 ghost use Rattle.form.specs.Form.{decode};
-ghost use Rattle.form.specs.Parts.{Sized};
+ghost use Rattle.form.specs.Contracts.{Sized};
 ghost use Rattle.opening.specs.Weighted.{Increased};
-ghost use Rattle.records.specs.Parts.{ArrayAddable, ArraysAdded, Compared, tallyMet, Tallied, tallyFits};
+ghost use Rattle.records.specs.Contracts.{ArrayAddable, ArraysAdded, Compared, tallyMet, Tallied, tallyFits};
 use base::convert::u16_to_u64;
 use base::wide;
 use form::Sizes;

@@ -8,9 +8,9 @@ use native.Mathlib.Nat.{div-le-of-le-mul, mul-comm}
 use native.Mathlib.Omega.{arith}
 use lib.ListN.{length, getD}
 use Rattle.base.specs.Lists.{tabulate}
-use Rattle.grid.specs.Grid.{gridAt, gridOf}
-use Rattle.table.specs.Shape.{Shape, IsTable}
-use Rattle.base.specs.Fill.{Filled}
+use Rattle.grid.specs.Contracts.{gridAt, gridOf}
+use Rattle.table.specs.Contracts.{Shape, IsTable}
+use Rattle.base.specs.Contracts.{Filled}
 use Rattle.base.specs.Buffers.{written}
 use Rattle.table.specs.Check.{checkOf}
 use Rattle.table.specs.declared.Table.{Table}
@@ -29,7 +29,7 @@ use Rattle.grid.proofs.GridBounds.{grid-small}
 use Rattle.table.proofs.Roundings.{gap-le, rounds-high}
 use Rattle.base.proofs.Filling.{filled-written}
 use Rattle.rounding.specs.Rounding.{isRounding, firstRounding}
-use Rattle.rounding.specs.Lines.{gridCell, IsGrid, RoundedGrid, Ready}
+use Rattle.rounding.specs.Contracts.{gridCell, IsGrid, RoundedGrid, Ready}
 use Rattle.rounding.proofs.Existence.{first-exists}
 use Rattle.rounding.specs.Call.{roundRefusal}
 use Rattle.rounding.proofs.Roundings.{rounding-length, rounding-grid}

@@ -6,9 +6,9 @@ use native.Mathlib.Nat.{add-mul, one-mul, mul-le-mul-right}
 use native.Mathlib.Omega.{arith}
 use lib.Arith.{digits-div, digits-mod}
 use lib.ListN.{length, getD, set}
-use Rattle.base.specs.Fill.{Filled}
+use Rattle.base.specs.Contracts.{Filled}
 use Rattle.base.proofs.Filling.{filled-none, filled-more, filled-join}
-use Rattle.rounding.specs.Lines.{gridCell, RowReady, Ready}
+use Rattle.rounding.specs.Contracts.{gridCell, RowReady, Ready}
 
 -- a row of which j cells are written
 abbrev pub RowTo : List ℕ → ℕ → ℕ → List ℕ → List ℕ → ℕ → Type 0

@@ -11,7 +11,7 @@ use lib.Seq.{getD-set-same, getD-set-other}
 use Rattle.base.specs.Lists.{tabulate}
 use Rattle.base.proofs.Listing.{ListedTo}
 use Rattle.base.proofs.Tabulated.{tabulate-getD}
-use Rattle.rounding.specs.Lines.{addedTo, takenOff, countAt, TotalsReady, CountsReady, Overwritten}
+use Rattle.rounding.specs.Contracts.{addedTo, takenOff, countAt, TotalsReady, CountsReady, Overwritten}
 use Rattle.rounding.proofs.PartLoops.{line-inside}
 use Rattle.rounding.proofs.PlaceKinds.{kind-cell, kind-row, kind-column, kind-grand}
 

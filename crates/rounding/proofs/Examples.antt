@@ -5,7 +5,7 @@ use Rattle.base.specs.Lists.{tabulate, sum, all}
 use Rattle.refusals.specs.Due.{due, answerOf, after}
 use Rattle.table.specs.Table.{entryPlaces, total}
 use Rattle.table.specs.Whole.{whole, gap, roundsTo}
-use Rattle.order.specs.Order.{nthRow, nthColumn, rank}
+use Rattle.cell_order.specs.Order.{nthRow, nthColumn, rank}
 use Rattle.rounding.specs.Order.{inOrder, arrayOf, firstOf}
 use Rattle.rounding.specs.Rounding.{isRounding, firstRounding}
 use Rattle.rounding.specs.Call.{roundRefusal}

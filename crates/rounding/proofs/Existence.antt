@@ -11,14 +11,14 @@ use borrow.Author.Tests.{ne-eqb}
 use Rattle.base.specs.Lists.{tabulate, sumTo}
 use Rattle.base.proofs.Lists.{length-tabulate, getD-tabulate}
 use Rattle.base.proofs.Sums.{sum-add}
-use Rattle.grid.specs.Grid.{gridAt}
+use Rattle.grid.specs.Contracts.{gridAt}
 use Rattle.table.specs.Whole.{down, gap}
-use Rattle.table.specs.Shape.{Shape}
+use Rattle.table.specs.Contracts.{Shape}
 use Rattle.table.specs.Check.{tableRefusal}
 use Rattle.table.proofs.Checks.{passed-all}
 use Rattle.table.proofs.Roundings.{gap-le}
-use Rattle.margins.specs.Matrix.{at, Caps}
-use Rattle.margins.proofs.Existence.{some-matrix}
+use Rattle.line_sums.specs.Matrix.{at, Caps}
+use Rattle.line_sums.proofs.Existence.{some-matrix}
 use Rattle.rounding.specs.Rounding.{isRounding, IsFirst, firstRounding}
 use Rattle.rounding.proofs.Lines.{low, high}
 use Rattle.rounding.proofs.Matrices.{Grid, turned, LineSums, LineNeeds}

@@ -9,17 +9,17 @@ use native.Mathlib.Omega.{arith}
 use lib.Arith.{digits-lt, digits-div, digits-mod}
 use lib.ListN.{getD}
 use Rattle.base.specs.Lists.{tabulate}
-use Rattle.grid.specs.Grid.{gridAt}
+use Rattle.grid.specs.Contracts.{gridAt}
 use Rattle.table.specs.Whole.{down, gap}
-use Rattle.table.specs.Shape.{Shape}
+use Rattle.table.specs.Contracts.{Shape}
 use Rattle.base.proofs.Lists.{length-tabulate, getD-tabulate}
 use Rattle.base.proofs.Sums.{sum-ext}
 use Rattle.grid.proofs.GridSums.{cell-at, below-rows, past-columns, row-total, column-total, grand-by-rows, grand-by-columns}
-use Rattle.order.specs.Order.{nthRow, nthColumn, rank}
-use Rattle.order.proofs.Ranks.{nth-row, nth-column, nth-rank, rank-below, rank-row, rank-column, rank-less}
+use Rattle.cell_order.specs.Order.{nthRow, nthColumn, rank}
+use Rattle.cell_order.proofs.Ranks.{nth-row, nth-column, nth-rank, rank-below, rank-row, rank-column, rank-less}
 use Rattle.table.proofs.Sizes.{shape-of}
 use Rattle.table.proofs.Roundings.{gap-whole, rounds, rounds-low, rounds-high}
-use Rattle.margins.specs.Matrix.{at, Matrix, Solvable, nthCell, FirstMatrix}
+use Rattle.line_sums.specs.Matrix.{at, Matrix, Solvable, nthCell, FirstMatrix}
 use Rattle.rounding.specs.Rounding.{isRounding, IsFirst}
 use Rattle.rounding.proofs.Orders.{DiffersAt, before-at}
 use Rattle.rounding.proofs.Roundings.{rounding-length, rounding-grid, grid-rounding}

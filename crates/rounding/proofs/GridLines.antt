@@ -9,16 +9,16 @@ use native.Mathlib.Omega.{arith}
 use lib.ListN.{length, getD, List·getD-eq-default}
 use Rattle.base.specs.Lists.{tabulate, sumTo}
 use Rattle.table.specs.Table.{maxEntry}
-use Rattle.grid.specs.Grid.{gridAt, gridOf}
+use Rattle.grid.specs.Contracts.{gridAt, gridOf}
 use Rattle.table.specs.Whole.{down, up, gap}
-use Rattle.table.specs.Shape.{Shape}
+use Rattle.table.specs.Contracts.{Shape}
 use Rattle.base.proofs.Lists.{length-tabulate}
 use Rattle.base.proofs.Listing.{listed-at}
 use Rattle.base.proofs.Sums.{sum-ext, sum-add}
 use Rattle.grid.proofs.GridPlaces.{grid-at}
 use Rattle.table.proofs.Roundings.{gap-le}
-use Rattle.margins.specs.Matrix.{at, Caps}
-use Rattle.rounding.specs.Lines.{lineSum, Parts, LineFits, LinesFit, Needs}
+use Rattle.line_sums.specs.Matrix.{at, Caps}
+use Rattle.rounding.specs.Contracts.{lineSum, Parts, LineFits, LinesFit, Needs}
 use Rattle.rounding.proofs.Lines.{low as low-of, high as high-of, gaps-le}
 use Rattle.rounding.proofs.Matrices.{Grid, turned, LineSums, LineNeeds}
 

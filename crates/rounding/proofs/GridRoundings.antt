@@ -7,13 +7,13 @@ use native.Mathlib.Omega.{arith}
 use lib.ListN.{getD}
 use Rattle.base.specs.Lists.{tabulate}
 use Rattle.base.proofs.Tabulated.{tabulate-getD}
-use Rattle.grid.specs.Grid.{gridAt, gridOf}
+use Rattle.grid.specs.Contracts.{gridAt, gridOf}
 use Rattle.table.specs.Whole.{down, up, gap}
-use Rattle.table.specs.Shape.{Shape}
+use Rattle.table.specs.Contracts.{Shape}
 use Rattle.grid.proofs.GridPlaces.{grid-at, length-grid}
-use Rattle.margins.specs.Matrix.{at, Asked, FirstMatrix}
+use Rattle.line_sums.specs.Matrix.{at, Asked, FirstMatrix}
 use Rattle.rounding.specs.Rounding.{IsFirst, firstRounding}
-use Rattle.rounding.specs.Lines.{Parts, LinesFit, Needs, BitsFit, countAt, IsGrid, RoundedGrid}
+use Rattle.rounding.specs.Contracts.{Parts, LinesFit, Needs, BitsFit, countAt, IsGrid, RoundedGrid}
 use Rattle.rounding.proofs.Roundings.{first-is}
 use Rattle.rounding.proofs.Matrices.{LineNeeds, turned, counts}
 use Rattle.rounding.proofs.FirstGrids.{grid-rows, grid-columns, solvable, m, n, n-grid, first}

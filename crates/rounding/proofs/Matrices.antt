@@ -7,7 +7,7 @@ use Rattle.base.specs.Lists.{sumTo}
 use Rattle.table.specs.Whole.{down, gap}
 use Rattle.base.proofs.Sums.{sum-ext, sum-add}
 use Rattle.table.proofs.Roundings.{rest-le}
-use Rattle.rounding.specs.Lines.{kind}
+use Rattle.rounding.specs.Contracts.{kind}
 use Rattle.rounding.proofs.Lines.{slack, slack-le, cells-need, totals-need, cells-bits, totals-bits, cells-counts, totals-counts}
 use Rattle.rounding.proofs.PlaceKinds.{kind-swap, kind-of, kind-cell, kind-row, kind-column, kind-grand, sum-cells, sum-totals}
 

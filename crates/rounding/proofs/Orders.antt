@@ -8,9 +8,9 @@ use lib.Arith.{digits-lt, digits-div, digits-mod}
 use lib.ListN.{length, getD}
 use Rattle.base.proofs.Lists.{length-tabulate, getD-tabulate}
 use Rattle.base.proofs.Tabulated.{tabulate-getD}
-use Rattle.order.specs.Order.{nthRow, nthColumn, rank}
-use Rattle.order.proofs.Ranks.{nth-row, nth-column, nth-rank, rank-below, rank-row, rank-column}
-use Rattle.table.specs.Shape.{Shape}
+use Rattle.cell_order.specs.Order.{nthRow, nthColumn, rank}
+use Rattle.cell_order.proofs.Ranks.{nth-row, nth-column, nth-rank, rank-below, rank-row, rank-column}
+use Rattle.table.specs.Contracts.{Shape}
 use Rattle.table.proofs.Sizes.{place-of}
 use Rattle.rounding.specs.Order.{inOrder, arrayOf, Smaller, Before}
 

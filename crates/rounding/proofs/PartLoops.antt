@@ -12,10 +12,10 @@ use Rattle.base.proofs.SumLoops.{Added, added-more, added-all}
 use Rattle.base.proofs.Lists.{each-more}
 use Rattle.base.proofs.Listing.{ListedTo, listed-none, listed-more, listed-all}
 use Rattle.table.specs.Whole.{down, up, gap}
-use Rattle.table.specs.Divide.{Dividable, Divides}
+use Rattle.table.specs.Contracts.{Dividable, Divides}
 use Rattle.table.specs.declared.whole.Divided.{Divided}
 use Rattle.table.proofs.Roundings.{gap-le}
-use Rattle.rounding.specs.Lines.{PartsReady, Parts, lineSum, LineFits, CellsFit, TotalsFit, LinesFit, Needs}
+use Rattle.rounding.specs.Contracts.{PartsReady, Parts, lineSum, LineFits, CellsFit, TotalsFit, LinesFit, Needs}
 
 -- the parts of the first k entries
 pub record PartsTo (w : ℕ) (e low high cap : List ℕ) (k : ℕ) : Type 0 where

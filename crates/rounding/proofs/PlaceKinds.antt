@@ -7,7 +7,7 @@ use lib.Dec.{eqb}
 use borrow.Author.Tests.{eq-eqb, ne-eqb}
 use Rattle.base.specs.Lists.{sumTo}
 use Rattle.base.proofs.Sums.{sum-ext}
-use Rattle.rounding.specs.Lines.{kind}
+use Rattle.rounding.specs.Contracts.{kind}
 
 module _ (p q a b : ℕ) where
   pub kind-swap : kind p q a b ≡ kind q p a b

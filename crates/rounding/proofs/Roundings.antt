@@ -12,12 +12,12 @@ use lib.ListN.{length, getD, length-map}
 use lib.Dec.{eqb}
 use borrow.Author.Tests.{eq-eqb, eqb-true}
 use Rattle.table.specs.Table.{total}
-use Rattle.grid.specs.Grid.{gridAt}
+use Rattle.grid.specs.Contracts.{gridAt}
 use Rattle.table.specs.Whole.{down, up, roundsTo}
-use Rattle.table.specs.Shape.{Shape}
+use Rattle.table.specs.Contracts.{Shape}
 use Rattle.base.proofs.Lists.{and-left, and-right, and-both}
-use Rattle.order.specs.Order.{nthRow, nthColumn}
-use Rattle.order.proofs.Ranks.{nth-row, nth-column}
+use Rattle.cell_order.specs.Order.{nthRow, nthColumn}
+use Rattle.cell_order.proofs.Ranks.{nth-row, nth-column}
 use Rattle.table.proofs.Sizes.{shape-of}
 use Rattle.table.proofs.Totals.{total-none}
 use Rattle.grid.proofs.GridSums.{cell-at}

@@ -1,5 +1,5 @@
 pub mod Order
 pub mod Rounding
 pub mod Call
-pub mod Lines
+pub mod Contracts
 pub mod Examples

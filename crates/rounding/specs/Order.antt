@@ -7,7 +7,7 @@ use mathlib.Core.Option.{Option, some, none}
 use Prim.Native.Nat.{ℕ, _+_, _*_, _/_, _%_, _<_}
 use lib.ListN.{getD}
 use Rattle.base.specs.Lists.{tabulate}
-use Rattle.order.specs.Order.{nthRow, nthColumn, rank}
+use Rattle.cell_order.specs.Order.{nthRow, nthColumn, rank}
 
 -- the counts of an array of r by c cells, in the order in which cells are compared, zero where the list has none; and the array that has such counts
 unfoldable pub inOrder : {A : Type 0} → A → ℕ → ℕ → List A → List A

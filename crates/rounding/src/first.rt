@@ -1,6 +1,6 @@
 // The first controlled rounding of a table that is held as a grid.
 ghost use mathlib.Core.Path.{_≡_};
-ghost use Rattle.rounding.specs.Lines.{GridReady, roundedDown, RoundedGrid};
+ghost use Rattle.rounding.specs.Contracts.{GridReady, roundedDown, RoundedGrid};
 use crate::needs::needs;
 use crate::parts::counts;
 use crate::parts::parts;
@@ -16,6 +16,6 @@ pub fn round_grid(e: &[u64; 169], w: u64, low: &mut [u64; 169], n: &mut [u64; 16
     parts(e, w, low, &mut high, &mut cap);
     let rows = needs(low, &high, 13, 1);
     let cols = needs(low, &high, 1, 13);
-    let bits = margins::first(&cap, &rows, &cols);
+    let bits = line_sums::first(&cap, &rows, &cols);
     counts(low, &high, &bits, n);
 }

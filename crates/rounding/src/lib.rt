@@ -9,7 +9,7 @@ ghost use Rattle.base.specs.Buffers.{written};
 ghost use Rattle.table.specs.Check.{tableRefusal};
 ghost use Rattle.rounding.specs.Rounding.{IsFirst, firstRounding};
 ghost use Rattle.rounding.specs.Call.{roundRefusal};
-ghost use Rattle.rounding.specs.Lines.{TableReady};
+ghost use Rattle.rounding.specs.Contracts.{TableReady};
 ghost use Rattle.rounding.specs.Examples.{candidates, roundsTable, roundCases, rounded, said};
 use crate::first::round_grid;
 use crate::write::write_cells;

@@ -2,7 +2,7 @@
 ghost use mathlib.Core.Path.{_≡_};
 ghost use Prim.Native.Nat.{_+_, _*_};
 ghost use lib.ListN.{getD};
-ghost use Rattle.rounding.specs.Lines.{lineSum, LineFits, CellsFit, TotalsFit, LinesFit, Needs};
+ghost use Rattle.rounding.specs.Contracts.{lineSum, LineFits, CellsFit, TotalsFit, LinesFit, Needs};
 use base::convert::u64_to_u8;
 
 // The sum of twelve numbers from `start` on, `step` apart.

@@ -3,7 +3,7 @@ ghost use mathlib.Core.Path.{_≡_};
 ghost use Prim.Native.Nat.{_+_, _≤_};
 ghost use Rattle.base.specs.Lists.{tabulate};
 ghost use Rattle.table.specs.Table.{maxEntry};
-ghost use Rattle.rounding.specs.Lines.{PartsReady, Parts, takenOff, TotalsReady, Overwritten, CountsReady, countAt};
+ghost use Rattle.rounding.specs.Contracts.{PartsReady, Parts, takenOff, TotalsReady, Overwritten, CountsReady, countAt};
 use base::convert::u8_to_u64;
 use table::whole::divide;
 

@@ -1,8 +1,8 @@
 // The cells of a grid, written out as counts.
 ghost use Prim.Native.Nat.{_+_, _*_};
 ghost use lib.ListN.{length, getD};
-ghost use Rattle.base.specs.Fill.{Filled};
-ghost use Rattle.rounding.specs.Lines.{gridCell, RowReady, Ready};
+ghost use Rattle.base.specs.Contracts.{Filled};
+ghost use Rattle.rounding.specs.Contracts.{gridCell, RowReady, Ready};
 use base::convert::u64_to_u16;
 
 // A row of `columns` cells that begins at place `first` of the grid, written from place `at` on.

@@ -8,7 +8,7 @@ use native.Mathlib.Omega.{arith}
 use borrow.Author.Tests.{eq-eqb, ne-eqb}
 use Rattle.base.specs.Lists.{sumTo}
 use Rattle.base.proofs.Sums.{sum-ext, sum-zero}
-use Rattle.sets.specs.Set.{num, ind}
+use Rattle.sets.specs.Contracts.{num, ind}
 
 pub ind-same : (x : ℕ) → ind x x ≡ 1
 unfolding ind

@@ -7,7 +7,7 @@ use native.Mathlib.Omega.{arith}
 use lib.Bits.{bitAnd, bitOr, bitXor, differ, and-shr, or-shr, xor-shr, and-step, or-step, xor-step, and-self, and-le-r, xor-zero-r, xor-lt}
 use lib.Count.{under, trailingZeros}
 use lib.Pow.{pow-pos, pow-mono}
-use Rattle.sets.specs.Set.{ind, on, Single, Some, Without, Rest, With, Minus}
+use Rattle.sets.specs.Contracts.{ind, on, Single, Some, Without, Rest, With, Minus}
 use Rattle.sets.proofs.Indicators.{ind-same, ind-other}
 
 pub on-le : (x i : ℕ) → on x i ≤ 1

@@ -6,7 +6,7 @@ use native.Mathlib.Decide.{ℕ-discrete}
 use native.Mathlib.Omega.{arith}
 use borrow.Author.Count.{below-more}
 use lib.ListN.{getD}
-use Rattle.sets.specs.Set.{on, has, Some, Without, Rest, With, Join, Via, Picked, UnionOf}
+use Rattle.sets.specs.Contracts.{on, has, Some, Without, Rest, With, Join, Via, Picked, UnionOf}
 use Rattle.sets.proofs.Indicators.{ind-same, ind-other}
 use Rattle.sets.proofs.Members.{on-le, on-zero}
 

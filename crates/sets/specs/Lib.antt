@@ -1,1 +1,1 @@
-pub mod Set
+pub mod Contracts

@@ -2,7 +2,7 @@
 ghost use mathlib.Core.Path.{_≡_};
 ghost use Prim.Native.Nat.{_+_, _≤_, _<_};
 ghost use lib.ListN.{length};
-ghost use Rattle.sets.specs.Set.{on, Single, NotEmpty, MemberOf, NewTo, Some, Without, Rest, With, Meet, Join, PartOf, Minus, Picked, Pickable, UnionOf, Nonzero};
+ghost use Rattle.sets.specs.Contracts.{on, Single, NotEmpty, MemberOf, NewTo, Some, Without, Rest, With, Meet, Join, PartOf, Minus, Picked, Pickable, UnionOf, Nonzero};
 
 // The set of one member.
 pub fn single(i: usize) -> u32

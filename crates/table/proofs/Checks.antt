@@ -17,7 +17,7 @@ use Rattle.refusals.proofs.Dues.{not-here, not-later, due-first, due-second, fi
 use Rattle.table.specs.Check.{upTo, cellsWithin, sizeTests, tableRefusal, answered, sizesOf, checkOf}
 use Rattle.refusals.specs.declared.Refusal.the-variants.{Size, Denominator, CellCount, LargeCell}
 use Rattle.table.specs.declared.Table.{Table}
-use Rattle.table.specs.Shape.{IsTable}
+use Rattle.table.specs.Contracts.{IsTable}
 use Rattle.table.specs.declared.Checked.{Checked}
 use Rattle.table.specs.declared.Checked.the-variants.{Accepted, Refused}
 use Rattle.base.proofs.Lists.{all-intro, all-elim, all-fails, and-left, and-right}

@@ -10,9 +10,9 @@ use mir.Syntax.{w64}
 use mir.Val.{SFits}
 use mir.Facts.{toZ-ofZ}
 use Rattle.base.proofs.Signs.{there}
-use Rattle.division.specs.Divide as signed
+use Rattle.division.specs.Contracts as signed
 use Rattle.division.specs.declared.Divided as signed-declared
-use Rattle.table.specs.Divide.{Dividable, Divides}
+use Rattle.table.specs.Contracts.{Dividable, Divides}
 use Rattle.table.proofs.Roundings.{gap-whole, gap-part}
 
 module _ {w e : ℕ} (a : Dividable w e) {z : ℤ} (is : z ≡ pos e) {d : signed-declared.Divided} (q : signed.Divides w (there z) d) where

@@ -12,7 +12,7 @@ use mir.Syntax.{w64}
 use Rattle.base.proofs.SumLoops.{Added, added-all}
 use Rattle.base.specs.Lists.{tabulate, sum, sumTo}
 use Rattle.table.specs.Table.{places, cellPlaces, total}
-use Rattle.table.specs.Shape.{Shape, Reach}
+use Rattle.table.specs.Contracts.{Shape, Reach}
 use Rattle.base.proofs.Sums.{sum-map}
 
 -- a total over places that a function lists

@@ -1,6 +1,5 @@
 pub mod Table
 pub mod Whole
 pub mod Check
-pub mod Shape
-pub mod Divide
+pub mod Contracts
 pub mod Examples

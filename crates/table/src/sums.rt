@@ -2,7 +2,7 @@
 ghost use mathlib.Core.Path.{_≡_};
 ghost use lib.ListN.{length};
 ghost use Rattle.table.specs.Table.{places, total};
-ghost use Rattle.table.specs.Shape.{Reach};
+ghost use Rattle.table.specs.Contracts.{Reach};
 use base::wide;
 
 // The sum of `count` cells from `start` on, `step` apart.

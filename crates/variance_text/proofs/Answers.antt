@@ -15,7 +15,7 @@ use Rattle.opening.specs.Open.{openRefusal, Opens, openAnswer}
 use Rattle.opening.proofs.Opening.{is-open, is-refused}
 use Rattle.variances.specs.declared.Numerators.{Numerators}
 use Rattle.variances.specs.Covariance.{numerators}
-use Rattle.variances.specs.Lifted.{numeratorsOf, Measured}
+use Rattle.variances.specs.Contracts.{numeratorsOf, Measured}
 use Rattle.printing.specs.Lines.{decimal, refused}
 use Rattle.printing.specs.Write.{Wrote}
 use Rattle.printing.proofs.Writes.{wrote-inside, wrote-part}

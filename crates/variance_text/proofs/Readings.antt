@@ -10,7 +10,7 @@ use mir.Val.{Fits}
 use mir.Syntax.{w64}
 use Rattle.form.specs.Form.{maxLength}
 use Rattle.variance_text.specs.VarianceText.{toRead}
-use Rattle.variance_text.specs.Read.{PlanLength, HasRead}
+use Rattle.variance_text.specs.Contracts.{PlanLength, HasRead}
 use Rattle.variance_text.proofs.Starts.{short-eight, read-least}
 
 pub eight-count : (x : List ℕ) → maxLength ≤ length x → 8 ≡ length (take 8 x)

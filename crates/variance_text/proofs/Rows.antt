@@ -13,9 +13,10 @@ use Rattle.form.specs.Form.{decode}
 use Rattle.opening.specs.Open.{openRefusal}
 use Rattle.variances.specs.declared.Numerators.{Numerators}
 use Rattle.variances.specs.Covariance.{numerators}
-use Rattle.variances.specs.Lifted.{lift, numeratorsOf}
+use Rattle.variances.specs.Contracts.{lift, numeratorsOf}
 use Rattle.printing.specs.Lines.{decimal, spaced, line, refused}
-use Rattle.printing.specs.Write.{Room, Wrote}
+use Rattle.printing.specs.Contracts.{Room}
+use Rattle.printing.specs.Write.{Wrote}
 use Rattle.printing.proofs.Decimals.{decimal-most}
 use Rattle.printing.proofs.Writes.{room-first, room-then, wrote-then}
 use Rattle.variance_text.specs.VarianceText.{signed, restOfLine, planText}

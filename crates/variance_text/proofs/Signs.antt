@@ -5,10 +5,11 @@ use Prim.Native.Nat.{ℕ, suc, _+_, _-_, _<_, _≤_}
 use native.Mathlib.Omega.{arith}
 use lib.IntN.{ℤ, pos, negsuc, subℕ}
 use lib.ListN.{length}
-use Rattle.variances.specs.Lifted.{lift}
+use Rattle.variances.specs.Contracts.{lift}
 use Rattle.base.proofs.Differences.{sub-below, sub-above}
 use Rattle.printing.specs.Lines.{decimal}
-use Rattle.printing.specs.Write.{Room, Wrote}
+use Rattle.printing.specs.Contracts.{Room}
+use Rattle.printing.specs.Write.{Wrote}
 use Rattle.printing.proofs.Decimals.{decimal-most}
 use Rattle.printing.proofs.Writes.{room-first, room-then, wrote-then}
 use Rattle.variance_text.specs.VarianceText.{signed}

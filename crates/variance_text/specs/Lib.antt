@@ -1,4 +1,4 @@
 pub mod VarianceText
-pub mod Read
 pub mod Write
+pub mod Contracts
 pub mod Examples

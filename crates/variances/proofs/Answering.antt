@@ -13,12 +13,11 @@ use Rattle.form.specs.declared.Sizes.{Sizes}
 use Rattle.form.specs.Form.{decode}
 use Rattle.opening.specs.declared.Opened.{Opened}
 use Rattle.opening.specs.declared.Opened.the-variants as opened
-use Rattle.opening.specs.Open.{openAnswer}
-use Rattle.parts.specs.Parts.{partRefusal}
-use Rattle.parts.proofs.Telling.{not-open, too-short, told}
+use Rattle.opening.specs.Open.{openAnswer, partRefusal}
+use Rattle.plan_parts.proofs.Telling.{not-open, too-short, told}
 use Rattle.variances.specs.declared.Numerators.{Numerators}
 use Rattle.variances.specs.Covariance.{numerators}
-use Rattle.variances.specs.Lifted.{numeratorsOf, Measured}
+use Rattle.variances.specs.Contracts.{numeratorsOf, Measured}
 
 module _ (b : List ℕ) (old : List ℤ) {o : Opened} (is : o ≡ openAnswer b) where
   abbrev Answered : Answer → List ℤ → Type 0

@@ -7,13 +7,12 @@ use native.Mathlib.Omega.{arith}
 use lib.ListN.{length, getD}
 use mir.Val.{Fits}
 use mir.Syntax.{w64}
-use Rattle.base.specs.Widths.{Widened}
-use Rattle.table.specs.Divide.{Dividable, Divides}
+use Rattle.base.specs.Contracts.{Widened}
+use Rattle.table.specs.Contracts.{Dividable, Divides}
 use Rattle.table.specs.declared.whole.Divided.{Divided}
 use Rattle.base.proofs.SumLoops.{Summed, summed-all}
-use Rattle.variances.specs.Lifted.{lift, lifted}
+use Rattle.variances.specs.Contracts.{lift, lifted, DenominatorWithin, VariancesOf, Liftable, ExtremesReady}
 use Rattle.variances.specs.Covariance.{roundingVariance}
-use Rattle.variances.specs.Parts.{DenominatorWithin, VariancesOf, Liftable, ExtremesReady}
 
 module _ {d : ℕ} (h : DenominatorWithin d) (g : ℕ) where
   module _ {w e : ℕ} (a : Widened 4294967296 d w) (b : Widened 4294967296 g e) where

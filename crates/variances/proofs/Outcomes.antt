@@ -21,7 +21,7 @@ use Rattle.base.proofs.Lists.{and-left, and-right, and-both, all-append, all-ta
 use Rattle.form.specs.declared.Sizes.{Sizes}
 use Rattle.form.specs.Plan.{Plan, cellCount}
 use Rattle.form.specs.Form.{sizesOf, decode}
-use Rattle.form.specs.Parts.{Sized, HasTable}
+use Rattle.form.specs.Contracts.{Sized, HasTable}
 use Rattle.form.proofs.Readings.{cells-length}
 use Rattle.form.proofs.Sizing.{cells-are, denominator-is, sized-few, sized-some, sized-denominator, has-table}
 use Rattle.opening.specs.declared.Opened.the-variants as opened
@@ -30,8 +30,7 @@ use Rattle.opening.proofs.Opening.{opens-answer, opened-sized, sizes-product}
 use Rattle.opening.proofs.Scratch.{scratch-room}
 use Rattle.variances.specs.declared.Extremes.{Extremes}
 use Rattle.variances.specs.Covariance.{at, weightedProducts, covariance, cellCovariance, smaller, larger, extreme, covariances, numerators, roundingVariance}
-use Rattle.variances.specs.Lifted.{lift, Measured}
-use Rattle.variances.specs.Parts.{liftedPair, liftedPairs, CellsReady, ExtremesOf, widest, Extremal, SumReady, variancesOf, VariancesOf}
+use Rattle.variances.specs.Contracts.{lift, Measured, liftedPair, liftedPairs, CellsReady, ExtremesOf, widest, Extremal, SumReady, variancesOf, VariancesOf}
 use Rattle.base.proofs.Differences.{sub-below, sub-above, sub-same}
 use Rattle.variances.proofs.Measuring.{scaled-small, product-small, lifted-small}
 use Rattle.variances.proofs.Covariances.{cell-variance-is}

@@ -6,23 +6,22 @@ use native.Mathlib.Nat.{mul-assoc}
 use native.Mathlib.Omega.{arith}
 use lib.ListN.{length, getD, replicate, length-replicate}
 use Rattle.base.specs.Lists.{tabulate, sumTo, joinTo}
-use Rattle.base.specs.Widths.{Widened}
+use Rattle.base.specs.Contracts.{Widened}
 use Rattle.base.proofs.Lists.{tabulate-ext}
 use Rattle.base.proofs.Sums.{sum-ext, sum-places}
 use Rattle.form.specs.declared.Sizes.{Sizes}
 use Rattle.form.specs.Plan.{Weighted, Plan, arrayAt, cellCount}
 use Rattle.form.specs.Form.{decode}
-use Rattle.form.specs.Parts.{Sized}
+use Rattle.form.specs.Contracts.{Sized}
 use Rattle.form.proofs.Readings.{cells-length, decode-few}
 use Rattle.form.proofs.Sizing.{sized-some, sized-denominator, denominator-is}
-use Rattle.opening.specs.Parts.{SumsTo}
+use Rattle.opening.specs.Contracts.{SumsTo}
 use Rattle.opening.proofs.Opening.{is-open, opened-sized}
 use Rattle.opening.proofs.Sound.{Sound, sound}
 use Rattle.opening.proofs.Weighting.{sums-none}
 use Rattle.variances.specs.declared.Extremes.{Extremes}
 use Rattle.variances.specs.Covariance.{at, weightedProducts}
-use Rattle.variances.specs.Lifted.{lift}
-use Rattle.variances.specs.Parts.{KeepReady, factors, RowReady, Liftable, liftedRow, ExtremesReady, ExtremesOf, liftedPair, liftedPairs, CellsReady, RowsReady, RowAt, widest}
+use Rattle.variances.specs.Contracts.{lift, KeepReady, factors, RowReady, Liftable, liftedRow, ExtremesReady, ExtremesOf, liftedPair, liftedPairs, CellsReady, RowsReady, RowAt, widest}
 use Rattle.variances.proofs.Covariances.{products-most}
 use Rattle.variances.proofs.Folds.{joined-more}
 

@@ -12,19 +12,19 @@ use mir.Syntax.{w32, w64}
 use Rattle.base.specs.Buffers.{written}
 use Rattle.base.proofs.Buffers.{written-at, written-length}
 use Rattle.base.proofs.Sums.{sum-places, sum-term}
-use Rattle.base.specs.Widths.{Widened}
+use Rattle.base.specs.Contracts.{Widened}
 use Rattle.form.specs.declared.Sizes.{Sizes}
 use Rattle.form.specs.Plan.{Weighted, arrayAt}
 use Rattle.form.specs.Form.{decode}
-use Rattle.form.specs.Parts.{Sized, HasArray}
+use Rattle.form.specs.Contracts.{Sized, HasArray}
 use Rattle.form.proofs.Readings.{decode-few}
 use Rattle.form.proofs.Sizing.{arrays-are, sized-arrays, sized-denominator, denominator-is, has-array}
-use Rattle.opening.specs.Parts.{SumsTo}
+use Rattle.opening.specs.Contracts.{SumsTo}
 use Rattle.opening.specs.Weighted.{Addable, Increased}
 use Rattle.opening.proofs.Opening.{is-open, opened-sized}
 use Rattle.opening.proofs.Opens.{weights-add-up}
 use Rattle.opening.proofs.Weighting.{sums-addable, sums-more-at}
-use Rattle.variances.specs.Parts.{maxCounts, Kept, factors, RowReady}
+use Rattle.variances.specs.Contracts.{maxCounts, Kept, factors, RowReady}
 
 -- a part of a list put in the place of another as long
 module _ (xs ys : List ℕ) (at m : ℕ) (inside : at + m ≤ length xs) (e : length ys ≡ m) where

@@ -8,7 +8,7 @@ use Rattle.refusals.specs.Due.{answerOf, after}
 use Rattle.form.specs.Form.{decode}
 use Rattle.form.specs.Examples.{square, wide, recurring}
 use Rattle.opening.specs.Examples.{threeOnes, grandVaries, oneCell, zeros}
-use Rattle.parts.specs.Parts.{partRefusal}
+use Rattle.opening.specs.Open.{partRefusal}
 use Rattle.variances.specs.Covariance.{numerators}
 
 -- the listing of the specification: two by two, D 10, cells 3 4 5 6

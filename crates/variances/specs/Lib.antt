@@ -1,4 +1,3 @@
 pub mod Covariance
-pub mod Lifted
-pub mod Parts
+pub mod Contracts
 pub mod Examples

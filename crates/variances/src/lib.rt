@@ -9,7 +9,7 @@ ghost use Rattle.form.specs.Plan.{Plan, cellCount};
 ghost use Rattle.form.specs.Form.{decode};
 ghost use Rattle.opening.specs.Open.{heldTo, Opens};
 ghost use Rattle.variances.specs.Covariance.{at, weightedProducts, covariance, cellCovariance, variance, overPairs, roundingVariance};
-ghost use Rattle.variances.specs.Lifted.{lift};
+ghost use Rattle.variances.specs.Contracts.{lift};
 ghost use Rattle.variances.specs.Examples.{cases, told, said};
 
 pub mod call;

@@ -1,12 +1,11 @@
 // The three numerators of a plan that opens.
 ghost use mathlib.Core.Path.{_≡_};
-ghost use Rattle.base.specs.Widths.{Widened};
+ghost use Rattle.base.specs.Contracts.{Widened};
 ghost use Rattle.form.specs.Form.{decode};
 ghost use Rattle.opening.specs.declared.Opened.the-variants as opened;
 ghost use Rattle.opening.specs.Open.{openAnswer};
 ghost use Rattle.variances.specs.Covariance.{roundingVariance};
-ghost use Rattle.variances.specs.Lifted.{Measured};
-ghost use Rattle.variances.specs.Parts.{DenominatorWithin, SumReady, VariancesOf};
+ghost use Rattle.variances.specs.Contracts.{Measured, DenominatorWithin, SumReady, VariancesOf};
 use crate::Numerators;
 use crate::pairs::extremes;
 use base::wide;

@@ -2,8 +2,8 @@
 ghost use lib.ListN.{length};
 ghost use Rattle.form.specs.Plan.{cellCount};
 ghost use Rattle.form.specs.Form.{decode};
-ghost use Rattle.opening.specs.Parts.{SumsTo};
-ghost use Rattle.variances.specs.Parts.{KeepReady, Kept, RowReady, factors};
+ghost use Rattle.opening.specs.Contracts.{SumsTo};
+ghost use Rattle.variances.specs.Contracts.{KeepReady, Kept, RowReady, factors};
 use base::convert::u16_to_u32;
 use form::Sizes;
 use form::read::read_array;

@@ -18,7 +18,7 @@ use Rattle.form.specs.declared.find.Reading.the-variants.{Value, Missing}
 use Rattle.form.specs.Plan.{arrayAt}
 use Rattle.form.specs.Form.{rowsOf, columnsOf, arraysOf, amountOf, countOf, decode}
 use Rattle.form.specs.Find.{foundWeight, foundCount}
-use Rattle.form.specs.Parts.{Laid}
+use Rattle.form.specs.Contracts.{Laid}
 use Rattle.form.proofs.Layouts.{laid}
 use Rattle.form.proofs.Readings.{decode-arrays, decode-weight, decode-counts, contents-room, body-inside}
 use Rattle.form.proofs.Finds.{weight-found, count-there}

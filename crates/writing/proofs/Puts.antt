@@ -8,7 +8,7 @@ use Rattle.base.specs.Buffers.{putAt}
 use Rattle.base.proofs.Puts.{put-then, put-one, Put, put-more}
 use Rattle.form.specs.Form.{bytes, head, contentsEntry}
 use Rattle.form.proofs.Encodings.{length-bytes, bytes-split}
-use Rattle.writing.specs.Write.{numbers}
+use Rattle.writing.specs.Contracts.{numbers}
 
 -- numbers of one byte, of two and of four
 module _ (old : List ℕ) (at : ℕ) where

@@ -14,10 +14,10 @@ use Rattle.base.proofs.Puts.{put-then, put-start, Put, put-more}
 use Rattle.form.specs.declared.Sizes.{Sizes}
 use Rattle.form.specs.Plan.{Weighted, arrayAt}
 use Rattle.form.specs.Form.{bytes, head, contentsEntry, bodyAt, amountIn, encode}
-use Rattle.form.specs.Parts.{Bounded}
+use Rattle.form.specs.Contracts.{Bounded}
 use Rattle.form.proofs.Layouts.{offset-fits}
 use Rattle.form.proofs.Encodings.{length-entry, length-numbers, length-head}
-use Rattle.writing.specs.Write.{bufferedArray, bufferedPlan, bufferedAmount, bufferedEntry, numbers, Listed, Writable}
+use Rattle.writing.specs.Contracts.{bufferedArray, bufferedPlan, bufferedAmount, bufferedEntry, numbers, Listed, Writable}
 
 -- the entries of the contents
 pub amount-later : (d : ℕ) (weights : List ℕ) (i : ℕ) → (i ≡ 0 → ⊥) → getD weights (i - 1) 0 ≡ bufferedAmount d weights i

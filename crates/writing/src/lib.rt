@@ -5,8 +5,8 @@ ghost use lib.ListN.{length};
 ghost use Rattle.base.specs.Lists.{joinTo};
 ghost use Rattle.base.specs.Buffers.{written, putAt};
 ghost use Rattle.form.specs.Form.{bytes, head, contentsEntry, encode};
-ghost use Rattle.form.specs.Parts.{Bounded};
-ghost use Rattle.writing.specs.Write.{bufferedPlan, bufferedAmount, bufferedEntry, numbers, Listed, Writable};
+ghost use Rattle.form.specs.Contracts.{Bounded};
+ghost use Rattle.writing.specs.Contracts.{bufferedPlan, bufferedAmount, bufferedEntry, numbers, Listed, Writable};
 use form::Sizes;
 use form::layout::body_at;
 

@@ -1,6 +1,6 @@
 use Prim.Native.Nat.{_≤_, _-_, _/_, _%_}
 use Rattle.base.proofs.Listing.{ListedTo, listed-none, listed-more}
-use Rattle.grid.specs.Grid.{gridAt}
+use Rattle.grid.specs.Contracts.{gridAt}
 use Rattle.grid.proofs.GridPlaces.{grid-listed}
 use borrow.Author.Needs.{needs}
 use Rattle.grid.proofs.entries.Statement.{statement}

@@ -2,7 +2,7 @@ use borrow.Author.Needs.{needs}
 use Rattle.sets.proofs.member.Statement.{statement}
 use Rattle.sets.proofs.member.Tie as tie
 use mathlib.Core.Path.{refl}
-use Rattle.sets.specs.Set.{on}
+use Rattle.sets.specs.Contracts.{on}
 
 returns : tie.Need-returns
 unfolding on

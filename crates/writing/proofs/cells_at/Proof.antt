@@ -1,7 +1,7 @@
 use Prim.Native.Nat.{_-_, _≤_}
 use mathlib.Core.Path.{_≡_}
 use lib.ListN.{length}
-use Rattle.writing.specs.Write.{numbers}
+use Rattle.writing.specs.Contracts.{numbers}
 use Rattle.base.proofs.Puts.{Put, put-none, put-done}
 use Rattle.writing.proofs.Puts.{numbers-more}
 use borrow.Author.Needs.{needs}

@@ -2,7 +2,7 @@ use Prim.Native.Nat.{_+_, _-_, _≤_}
 use mathlib.Core.Path.{_≡_}
 use Rattle.base.specs.Lists.{joinTo}
 use Rattle.base.proofs.Puts.{Put, put-none, put-done}
-use Rattle.writing.specs.Write.{bufferedEntry}
+use Rattle.writing.specs.Contracts.{bufferedEntry}
 use Rattle.writing.proofs.Writings.{offset-small, entries-more}
 use borrow.Author.Needs.{needs}
 use Rattle.writing.proofs.contents.Statement.{statement}

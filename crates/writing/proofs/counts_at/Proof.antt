@@ -1,5 +1,5 @@
 use Prim.Native.Nat.{_-_, _≤_}
-use Rattle.writing.specs.Write.{numbers}
+use Rattle.writing.specs.Contracts.{numbers}
 use Rattle.base.proofs.Puts.{Put, put-none, put-done}
 use Rattle.writing.proofs.Puts.{numbers-more}
 use borrow.Author.Needs.{needs}

@@ -1,5 +1,5 @@
 use Prim.Native.Nat.{_≤_, _-_}
-use Rattle.base.specs.Fill.{Filled}
+use Rattle.base.specs.Contracts.{Filled}
 use Rattle.base.proofs.Filling.{filled-none, front-all}
 use Rattle.campaign.proofs.Calling.{sumAt, sum-fits, sum-stored}
 use borrow.Author.Needs.{needs}

@@ -4,7 +4,7 @@ use native.Mathlib.Omega.{arith}
 use lib.IntN.{pos}
 use lib.ListN.{length, getD}
 use Rattle.base.proofs.Storing.{Stored, stored-none}
-use Rattle.corrections.specs.Loops.{countOf}
+use Rattle.corrections.specs.Contracts.{countOf}
 use Rattle.corrections.proofs.Counting.{count-inside, count-ready, counts-inside, counts-length, counts-more, counts-all}
 use borrow.Author.Needs.{needs}
 use Rattle.corrections.proofs.counts.counts.Statement.{statement}

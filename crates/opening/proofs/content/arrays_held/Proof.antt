@@ -4,7 +4,7 @@ use native.Mathlib.Omega.{arith}
 use Rattle.base.proofs.Every.{Passed, passed-none, passed-next}
 use Rattle.form.specs.Plan.{cellCount}
 use Rattle.form.specs.Form.{decode}
-use Rattle.opening.specs.Parts.{weightAt, SumsTo}
+use Rattle.opening.specs.Contracts.{weightAt, SumsTo}
 use Rattle.opening.proofs.ContentTests.{heldAt, array-fails, arrays-pass}
 use borrow.Author.Needs.{needs}
 use Rattle.opening.proofs.content.arrays_held.Statement.{statement}

@@ -1,8 +1,8 @@
 use mathlib.Core.Path.{_≡_, refl}
 use native.Mathlib.Omega.{arith}
-use Rattle.plan.specs.Grids.{Gathered}
+use Rattle.plan.specs.Contracts.{Gathered}
 use Rattle.plan.proofs.Gathering.{gathered-start, weight-fits, weights-scaled, weights-room, start-fits, array-ready, array-counted, gathered-step}
-use Rattle.rounds.proofs.Reaching.{entries-left, weight-left, weight-most, less-left}
+use Rattle.planning.proofs.Reaching.{entries-left, weight-left, weight-most, less-left}
 use borrow.Author.Needs.{needs}
 use Rattle.plan.proofs.gather.gather.Statement.{statement}
 use Rattle.plan.proofs.gather.gather.Tie as tie

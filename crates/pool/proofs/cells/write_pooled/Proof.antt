@@ -1,6 +1,6 @@
 use Prim.Native.Nat.{_≤_, _-_}
 use lib.ListN.{length}
-use Rattle.base.specs.Fill.{Filled}
+use Rattle.base.specs.Contracts.{Filled}
 use Rattle.base.proofs.Filling.{filled-none}
 use Rattle.pool.proofs.Scales.{cellAt, second-inside, cell-narrow, cell-stored, cells-written}
 use borrow.Author.Needs.{needs}

@@ -2,7 +2,7 @@ use mathlib.Core.Path.{_≡_}
 use Prim.Native.Nat.{_≤_, _<_, _-_, _+_, _*_}
 use denote.Ref.{now}
 use Rattle.reasons.specs.declared.search.Found.the-variants.{Nowhere}
-use Rattle.reasons.specs.Grids.{block}
+use Rattle.reasons.specs.Contracts.{block}
 use Rattle.reasons.proofs.Searching.{NoneTo, none-at-start, row-start, row-end, none-more, found-here, found-nowhere, place-inside, place-scaled, row-fits, rows-fit, column-fits, place-fits}
 use borrow.Author.Needs.{needs}
 use Rattle.reasons.proofs.search.first_in.Statement.{statement}

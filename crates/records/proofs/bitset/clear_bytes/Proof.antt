@@ -1,5 +1,5 @@
 use Prim.Native.Nat.{_≤_, _-_}
-use Rattle.base.specs.Fill.{Filled}
+use Rattle.base.specs.Contracts.{Filled}
 use Rattle.base.proofs.Filling.{filled-none}
 use Rattle.records.proofs.Clearing.{zeroed, zeroed-more}
 use borrow.Author.Needs.{needs}

@@ -2,7 +2,7 @@ use mathlib.Core.Path.{_∙_}
 use Prim.Native.Nat.{_≤_, _-_}
 use native.Mathlib.Omega.{arith}
 use Rattle.base.proofs.Listing.{ListedTo, listed-none, listed-more}
-use Rattle.rounding.specs.Lines.{addedTo}
+use Rattle.rounding.specs.Contracts.{addedTo}
 use Rattle.rounding.proofs.CountLoops.{totals-ready, counts-all}
 use borrow.Author.Needs.{needs}
 use Rattle.rounding.proofs.parts.counts.Statement.{statement}

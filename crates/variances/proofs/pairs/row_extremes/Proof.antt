@@ -1,6 +1,6 @@
 use Prim.Native.Nat.{_≤_, _-_, min, max}
 use native.Mathlib.Omega.{arith}
-use Rattle.variances.specs.Parts.{liftedRow}
+use Rattle.variances.specs.Contracts.{liftedRow}
 use Rattle.variances.proofs.Measuring.{sum-there, cell-there}
 use Rattle.variances.proofs.Folds.{FoldedTo, folded-none, folded-more, folded-all}
 use borrow.Author.Needs.{needs}

@@ -4,7 +4,7 @@ use lib.ListN.{length}
 use native.Mathlib.Omega.{arith}
 use Rattle.form.specs.Plan.{cellCount}
 use Rattle.form.specs.Form.{decode}
-use Rattle.variances.specs.Parts.{Kept}
+use Rattle.variances.specs.Contracts.{Kept}
 use Rattle.form.proofs.Readings.{counts-length}
 use Rattle.form.proofs.Sizing.{arrays-are, cells-are, sized-arrays, sized-few, has-counts}
 use Rattle.variances.proofs.Rows.{kept-none, part-inside, part-length, kept-more, kept-all}

@@ -3,8 +3,8 @@ use mathlib.Core.Path.{_≡_}
 use lib.ListN.{length}
 use native.Mathlib.Omega.{arith}
 use Rattle.form.specs.Form.{decode}
-use Rattle.opening.specs.Parts.{SumsTo}
-use Rattle.variances.specs.Parts.{factors}
+use Rattle.opening.specs.Contracts.{SumsTo}
+use Rattle.variances.specs.Contracts.{factors}
 use Rattle.variances.proofs.Rows.{row-many, row-has, row-start, row-place, row-bytes, row-place-bytes, row-inside, row-end, row-addable, factor-fits, row-more, row-all}
 use borrow.Author.Needs.{needs}
 use Rattle.variances.proofs.sums.row_sums.Statement.{statement}

@@ -1,0 +1,4 @@
+pub mod Array
+pub mod Sizes
+pub mod Contracts
+pub mod Examples

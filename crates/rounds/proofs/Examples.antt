@@ -1,9 +1,0 @@
--- The table of specs/Examples.antt holds, by computation. Assumes nothing.
-use mathlib.Core.Path.{_≡_, refl}
-use mathlib.Core.List.{map}
-use Rattle.rounds.specs.Rounds.{limitOf}
-use Rattle.rounds.specs.Examples.{limits, limited}
-
-pub limits-hold : map limited limits ≡ map (λ x. x .limit) limits
-unfolding limitOf
-limits-hold = refl

@@ -1,4 +1,0 @@
-pub mod Rounds
-pub mod Examples
-pub mod Progress
-pub mod Grids

@@ -1,4 +1,0 @@
-pub mod Text
-pub mod Parsed
-pub mod Write
-pub mod Examples
