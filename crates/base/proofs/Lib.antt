@@ -14,3 +14,4 @@ pub mod Searches
 pub mod Zips
 pub mod Differences
 pub mod Signs
+pub mod Clearing

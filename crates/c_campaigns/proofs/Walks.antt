@@ -27,9 +27,9 @@ use Rattle.refusals.specs.declared.Answer.{Answer}
 use Rattle.refusals.proofs.Answer as E
 use Rattle.refusals.proofs.Answer.Laws as E′
 use Rattle.refusals.proofs.answer_number as number
-use Rattle.campaign.specs.declared.Step.{Step}
-use Rattle.campaign.proofs.Step as S
-use Rattle.campaign.proofs.Step.Laws as S′
+use Rattle.campaign_start.specs.declared.Step.{Step}
+use Rattle.campaign_start.proofs.Step as S
+use Rattle.campaign_start.proofs.Step.Laws as S′
 use Rattle.c_campaigns.specs.declared.Record.{Record}
 use Rattle.c_campaigns.proofs.Record as R
 use Rattle.c_campaigns.proofs.Record.Laws as R′

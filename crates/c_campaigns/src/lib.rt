@@ -2,7 +2,8 @@
 // A slice is a pointer and then its length in elements.
 ghost use Rattle.refusals.specs.Answer.{answerNumber};
 ghost use Rattle.records.specs.Record.{recordOf};
-ghost use Rattle.campaign.specs.Calls.{started, ask, made, Starts, Draws};
+ghost use Rattle.campaign_start.specs.Start.{started, Starts};
+ghost use Rattle.campaign_draw.specs.Draw.{ask, made, Draws};
 
 // The part of a campaign record that is no buffer: the count of numbers taken, and the rounds completed.
 #[repr(C)]
@@ -23,7 +24,7 @@ pub extern "C" fn lufodimi_start(
         (started (now (plan .entry)) (recordOf (now («record» .entry) .taken) (now («record» .entry) .rounds) (now (bits .entry)) (now (tally .entry))))
         n (recordOf (now («record» .exit) .taken) (now («record» .exit) .rounds) (now (bits .exit)) (now (tally .exit))) ⌝ }
 {
-    let started = campaign::start::start(plan, record.taken, record.rounds, bits, tally);
+    let started = campaign_start::start(plan, record.taken, record.rounds, bits, tally);
     record.taken = started.taken;
     record.rounds = started.rounds;
     refusals::answer_number(started.answer)
@@ -44,7 +45,7 @@ pub extern "C" fn lufodimi_campaign_draw(
         (ask number (now (counts .entry))))
         n (recordOf (now («record» .exit) .taken) (now («record» .exit) .rounds) (now (bits .exit)) (now (tally .exit))) (now (counts .exit)) ⌝ }
 {
-    let drawn = campaign::draw::draw(
+    let drawn = campaign_draw::draw(
         plan,
         number,
         record.taken,

@@ -6,9 +6,10 @@ ghost use lib.ListN.{length, drop};
 ghost use Rattle.refusals.specs.Answer.{answerNumber};
 ghost use Rattle.refusals.specs.Due.{answerOf, after};
 ghost use Rattle.base.specs.Buffers.{written};
-ghost use Rattle.form.specs.Plan.{cellCount};
+ghost use Rattle.weighted_arrays.specs.Plan.{cellCount};
 ghost use Rattle.form.specs.Form.{decode};
-ghost use Rattle.opening.specs.Open.{openAnswer, openedNumber, drawRefusal, drawnArray, partRefusal};
+ghost use Rattle.opening.specs.Open.{openAnswer, openedNumber, partRefusal};
+ghost use Rattle.drawing.specs.Draw.{drawRefusal, drawnArray};
 ghost use Rattle.plan_parts.specs.Sizes.{sizeNumbers};
 ghost use Rattle.plan_parts.specs.Array.{buffers, arrayRefusal, arrayInto};
 ghost use Rattle.variances.specs.Covariance.{numerators};
@@ -29,7 +30,7 @@ pub extern "C" fn lufodimi_draw(plan: &[u8], number: u32, counts: &mut [u16]) ->
     ensures buffer { λ _. ⌜ now (counts .exit) ≡ after (drawRefusal (now (plan .entry)) number (length (now (counts .entry))))
         (written (drawnArray (now (plan .entry)) number) (now (counts .entry))) (now (counts .entry)) ⌝ }
 {
-    let answer = opening::draw::draw(plan, number, counts);
+    let answer = drawing::draw(plan, number, counts);
     refusals::answer_number(answer)
 }
 

@@ -4,12 +4,13 @@ ghost use lib.ListN.{length};
 ghost use Rattle.refusals.specs.Answer.{answerNumber};
 ghost use Rattle.refusals.specs.Due.{answerOf, after};
 ghost use Rattle.base.specs.Buffers.{written};
-ghost use Rattle.rounding.specs.Rounding.{firstRounding};
+ghost use Rattle.first_rounding.specs.First.{firstRounding};
 ghost use Rattle.rounding.specs.Call.{roundRefusal};
 ghost use Rattle.corrections.specs.Rounding as corrections;
 ghost use Rattle.corrections.specs.Call as corrections-call;
 ghost use Rattle.plan.specs.Call.{planBytes, planRefusal, planAnswer, plannedNumber, Apart};
-ghost use Rattle.reasons.specs.Call.{reasonAnswer, reasonNumbers, replyRefusal};
+ghost use Rattle.reasons.specs.Call.{reasonAnswer};
+ghost use Rattle.reason_numbers.specs.Numbers.{reasonNumbers, replyRefusal};
 ghost use Rattle.pool.specs.Pool.{poolRefusal, lent, pooledInto};
 
 // Writes the first controlled rounding of a table: 0, or the refusal's number.
@@ -78,7 +79,7 @@ pub extern "C" fn lufodimi_reason(
     ensures buffer { λ _. ⌜ now (reply .exit) ≡ after (replyRefusal rows columns denominator (now (cells .entry)) array (length (now (reply .entry))))
         (written (reasonNumbers (reasonAnswer rows columns denominator (now (cells .entry)) array)) (now (reply .entry))) (now (reply .entry)) ⌝ }
 {
-    let explained = reasons::write_reason(rows, columns, denominator, cells, array, reply);
+    let explained = reason_numbers::write_reason(rows, columns, denominator, cells, array, reply);
     refusals::answer_number(explained)
 }
 

@@ -5,7 +5,7 @@ use Rattle.base.specs.Lists.{tabulate, sumℤ, all}
 use Rattle.refusals.specs.Due.{due, answerOf, after}
 use Rattle.table.specs.Table.{entryPlaces}
 use Rattle.cell_order.specs.Order.{nthRow, nthColumn, rank}
-use Rattle.rounding.specs.Order.{inOrder, arrayOf, firstOf}
+use Rattle.first_rounding.specs.Order.{inOrder, arrayOf, firstOf}
 use Rattle.corrections.specs.Rounding.{total, roundsTo, isRounding, firstRounding}
 use Rattle.corrections.specs.Call.{roundRefusal}
 use Rattle.corrections.specs.Examples.{rounded, roundedOf, candidates, roundsSheet, calls, outcome, said}

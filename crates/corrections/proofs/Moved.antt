@@ -24,10 +24,11 @@ use Rattle.table.specs.Table.{cellPlaces, entryPlaces}
 use Rattle.table.specs.Contracts.{Shape}
 use Rattle.table.proofs.Sizes.{place-of}
 use Rattle.table.proofs.EntryPlaces.{entries-length, cell-at}
-use Rattle.rounding.specs.Order.{inOrder, arrayOf, Smaller, Choice, either, emptyIf, found, firstOf}
-use Rattle.rounding.specs.Rounding as natural
-use Rattle.rounding.proofs.Orders.{length-in-order, in-order-at, at-rank}
-use Rattle.rounding.proofs.Roundings.{rounding-length, back, finds}
+use Rattle.first_rounding.specs.Order.{inOrder, arrayOf, Smaller, Choice, either, emptyIf, found, firstOf}
+use Rattle.is_rounding.specs.Rounding as rounding
+use Rattle.first_rounding.specs.First as natural
+use Rattle.first_rounding.proofs.Orders.{length-in-order, in-order-at, at-rank}
+use Rattle.first_rounding.proofs.Roundings.{rounding-length, back, finds}
 use Rattle.division.proofs.Meanings.{down-apart}
 use Rattle.corrections.specs.Rounding.{total, roundsTo, isRounding, Before, IsFirst, choice, firstRounding}
 use Rattle.corrections.proofs.Apart.{less-added, same-counts, rounds-apart, up-apart, rounds-more}
@@ -149,8 +150,8 @@ module _ {r c w : ℕ} {g q : List ℤ} {e : List ℕ} (s : Shape r c e) (h : 0 
       ∙ ap (λ (z : ℤ). plus z (getD l (rank r c (k / c) (k % c)) 0)) (at-rank (pos 0) (t .row) (t .column) q ∙ ap (λ (i : ℕ). getD q i (pos 0)) (t .is))
       ∙ sym (moved-at q _ (q-length ∙ sym long) k ∙ ap (plus (getD q k (pos 0))) (getD-tabulate (r * c) _ k 0 b)))
 
-  pub rounding-moved : (n : List ℕ) → length n ≡ r * c → isRounding r c w g (moved q n) ≡ natural.isRounding r c w e n
-  unfolding isRounding natural.isRounding
+  pub rounding-moved : (n : List ℕ) → length n ≡ r * c → isRounding r c w g (moved q n) ≡ rounding.isRounding (rounding.twoWays r c) w e n
+  unfolding isRounding rounding.isRounding
   rounding-moved n d =
       let same : length q ≡ length n = q-length ∙ sym d in
       ap₂ _&&_
@@ -179,7 +180,7 @@ module _ {r c w : ℕ} {g q : List ℤ} {e : List ℕ} (s : Shape r c e) (h : 0 
     first-moved =
         ap (λ (o : Option (List ℤ)). arrayOf (pos 0) r c (found o))
         (ap (firstOf (λ l. isRounding r c w g (arrayOf (pos 0) r c l))) choices-moved
-        ∙ search-moved _ (λ l. natural.isRounding r c w e (arrayOf 0 r c l)) (inOrder (pos 0) r c q) (map (natural.choice w) (inOrder 0 r c e)) (length-in-order (pos 0) r c q ∙ sym few)
+        ∙ search-moved _ (λ l. rounding.isRounding (rounding.twoWays r c) w e (arrayOf 0 r c l)) (inOrder (pos 0) r c q) (map (natural.choice w) (inOrder 0 r c e)) (length-in-order (pos 0) r c q ∙ sym few)
         (λ l d. let d′ : length l ≡ r * c = d ∙ few in ap (isRounding r c w g) (array-moved l d′) ∙ rounding-moved (arrayOf 0 r c l) (array-length r c l))
         ∙ ap (movedSome (inOrder (pos 0) r c q)) (finds s w n f))
         ∙ array-moved (inOrder 0 r c n) (length-in-order 0 r c n)

@@ -18,10 +18,10 @@ use Rattle.refusals.proofs.Dues.{first-none}
 use Rattle.table.specs.Contracts.{IsTable}
 use Rattle.table.specs.Check as natural-check
 use Rattle.table.proofs.Checks.{passed-all}
-use Rattle.rounding.specs.Rounding as natural
+use Rattle.first_rounding.specs.First as natural
 use Rattle.rounding.specs.Call as natural-call
-use Rattle.rounding.proofs.Existence.{first-exists}
-use Rattle.rounding.proofs.Roundings.{rounding-length}
+use Rattle.first_rounding.proofs.Existence.{first-exists}
+use Rattle.first_rounding.proofs.Roundings.{rounding-length}
 use Rattle.corrections.specs.Rounding.{firstRounding}
 use Rattle.corrections.specs.Call.{cellWithin, roundRefusal}
 use Rattle.corrections.specs.Same.{replyOf, naturalReply}

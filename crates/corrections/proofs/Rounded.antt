@@ -30,10 +30,11 @@ use Rattle.table.proofs.Totals.{total-cell}
 use Rattle.table.proofs.Roundings.{gap-le, rounds-high}
 use Rattle.table.specs.Table as natural-table
 use Rattle.table.specs.Whole as natural-whole
-use Rattle.rounding.specs.Rounding as natural
+use Rattle.is_rounding.specs.Rounding as rounding
+use Rattle.first_rounding.specs.First as natural
 use Rattle.rounding.specs.Contracts.{TableReady}
-use Rattle.rounding.proofs.Existence.{first-exists}
-use Rattle.rounding.proofs.Roundings.{rounding-length}
+use Rattle.first_rounding.proofs.Existence.{first-exists}
+use Rattle.first_rounding.proofs.Roundings.{rounding-length}
 use Rattle.corrections.specs.Rounding.{IsFirst, firstRounding}
 use Rattle.corrections.specs.Call.{cellWithin, tableRefusal}
 use Rattle.corrections.specs.Contracts.{rests, RestsReady, countOf, countsOf, CountsReady}
@@ -107,7 +108,7 @@ module _ (r c d : ℕ) (g : List ℤ) (a : tableRefusal r c d g ≡ none) where
 
   -- each count of what is left over is 0 or 1
   firsts-small : (k : ℕ) → k < length g → getD firsts k 0 ≤ 1
-  unfolding natural.isRounding
+  unfolding rounding.isRounding
   firsts-small k h =
       let inside : k < length (entryPlaces r c) = omega (arith, entries-length r c, sizes .count) in
       let there = all-elim (λ x. natural-whole.roundsTo d (natural-table.total (rests d g) x) (natural-table.total firsts x)) (entryPlaces r c) []

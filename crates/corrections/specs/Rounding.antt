@@ -11,7 +11,7 @@ use lib.Signed.{leZ, _<ℤ_}
 use Rattle.base.specs.Lists.{sumℤ, all}
 use Rattle.division.specs.Division.{down, rest}
 use Rattle.table.specs.Table.{entryPlaces}
-use Rattle.rounding.specs.Order.{inOrder, arrayOf, Smaller, Choice, found, firstOf}
+use Rattle.first_rounding.specs.Order.{inOrder, arrayOf, Smaller, Choice, found, firstOf}
 
 -- an entry: the sum of the cells at some places
 unfoldable pub total : List ℤ → List ℕ → ℤ

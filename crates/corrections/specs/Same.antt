@@ -7,7 +7,7 @@ use lib.ListN.{length}
 use Rattle.base.specs.Buffers.{written}
 use Rattle.refusals.specs.declared.Refusal.{Refusal}
 use Rattle.refusals.specs.Due.{after}
-use Rattle.rounding.specs.Rounding as natural
+use Rattle.first_rounding.specs.First as natural
 use Rattle.rounding.specs.Call as natural-call
 use Rattle.corrections.specs.Rounding.{firstRounding}
 use Rattle.corrections.specs.Call.{roundRefusal}

@@ -8,9 +8,9 @@ use native.Mathlib.Decide.{decLt}
 use native.Mathlib.Omega.{arith}
 use Rattle.base.specs.Lists.{sum, sumTo}
 use Rattle.base.proofs.Sums.{sum-add-range}
-use Rattle.form.specs.Plan.{Weighted, arrayAt}
-use Rattle.opening.specs.Contracts.{weightsBefore, Belongs}
-use Rattle.opening.proofs.Belonging.{before-front, array-for}
+use Rattle.weighted_arrays.specs.Plan.{Weighted, arrayAt}
+use Rattle.weighted_arrays.specs.Contracts.{weightsBefore, Belongs}
+use Rattle.weighted_arrays.proofs.Belonging.{before-front, array-for}
 use Rattle.demands.specs.Numbers.{Belonging}
 
 -- the place of a number's array

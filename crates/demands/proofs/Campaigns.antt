@@ -6,11 +6,11 @@ use native.Mathlib.Nat.{add-mul, one-mul}
 use native.Mathlib.Omega.{arith}
 use lib.ListN.{length}
 use Rattle.table.specs.Table.{total}
-use Rattle.form.specs.Plan.{Plan}
+use Rattle.weighted_arrays.specs.Plan.{Plan}
 use Rattle.form.specs.Form.{decode}
 use Rattle.opening.proofs.Sound.{Sound, sound}
 use Rattle.records.specs.Record.{CampaignRecord}
-use Rattle.campaign.specs.Calls.{Made}
+use Rattle.campaign_draw.specs.Draw.{Made}
 use Rattle.demands.specs.Runs.{drawn, unused, Rounds}
 use Rattle.demands.specs.Claim.{Claim}
 use Rattle.demands.proofs.Rounds.{balances, inside, completed, none-used, none-drawn}

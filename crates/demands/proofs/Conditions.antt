@@ -9,7 +9,7 @@ use borrow.Author.Tests.{leb-true, le-leb, eq-eqb}
 use Rattle.base.proofs.Lists.{and-both, all-intro, all-tabulate, all-at-member, all-of-members}
 use Rattle.table.specs.Table.{total}
 use Rattle.table.specs.Whole.{roundsTo}
-use Rattle.form.specs.Plan.{Plan}
+use Rattle.weighted_arrays.specs.Plan.{Plan}
 use Rattle.form.specs.Form.{decode}
 use Rattle.opening.specs.Open.{heldTo, held, weighted, consistent, Opens}
 use Rattle.opening.proofs.Opening.{opens-layout, opens-by}

@@ -10,15 +10,19 @@ use Rattle.table.specs.Table.{total, entryPlaces}
 use Rattle.table.specs.Whole.{whole, gap, roundsTo}
 use Rattle.table.specs.Check.{tableRefusal, checkOf, checkedNumber}
 use Rattle.cell_order.specs.Order.{nthRow, nthColumn, rank}
-use Rattle.rounding.specs.Order.{inOrder, arrayOf, firstOf}
-use Rattle.rounding.specs.Rounding.{isRounding, firstRounding}
-use Rattle.form.specs.Plan.{arrayFor}
-use Rattle.form.specs.Form.{encode, head, contentsEntry, bytes, number, headRight, laidOut, decode}
+use Rattle.first_rounding.specs.Order.{inOrder, arrayOf, firstOf}
+use Rattle.is_rounding.specs.Rounding.{isRounding}
+use Rattle.first_rounding.specs.First.{firstRounding}
+use Rattle.weighted_arrays.specs.Plan.{arrayFor}
+use Rattle.form.specs.Form.{encode, head, contentsEntry, headRight, laidOut, decode}
+use Rattle.byte_numbers.specs.Bytes.{bytes, number}
 use Rattle.opening.specs.Open.{consistent}
 use Rattle.planning.specs.Rounds.{limitOf, weightOf, without, roundsFrom, planOf}
 use Rattle.plan.proofs.ZeroPlans.{zero-plan}
-use Rattle.records.specs.Record.{bitOf, within, fits}
-use Rattle.campaign.specs.Calls.{startRefusal, cleared, campaignRefusal, taking, closed, started, made}
+use Rattle.bits.specs.Bits.{bitOf}
+use Rattle.records.specs.Record.{within, fits}
+use Rattle.campaign_start.specs.Start.{startRefusal, cleared, started}
+use Rattle.campaign_draw.specs.Draw.{campaignRefusal, taking, closed, made}
 use Rattle.demands.specs.Runs.{draws, lastRecord, used, overAccepted, unused, oneMore, further}
 use Rattle.demands.specs.Examples.{examples, computed, ExamplesHold}
 use Rattle.demands.specs.Campaigns.{runs, saidOf}

@@ -16,10 +16,12 @@ use Rattle.refusals.proofs.Dues.{due-here, due-next, none-applies}
 use Rattle.rounding.specs.Call.{roundRefusal}
 use Rattle.corrections.specs.Call as corrections
 use Rattle.plan.specs.Call.{planRefusal}
-use Rattle.opening.specs.Open.{openRefusal, drawRefusal, partRefusal}
+use Rattle.opening.specs.Open.{openRefusal, partRefusal}
+use Rattle.drawing.specs.Draw.{drawRefusal}
 use Rattle.plan_parts.specs.Array.{arrayRefusal}
-use Rattle.reasons.specs.Call.{replyRefusal}
-use Rattle.campaign.specs.Calls.{startRefusal, campaignRefusal}
+use Rattle.reason_numbers.specs.Numbers.{replyRefusal}
+use Rattle.campaign_start.specs.Start.{startRefusal}
+use Rattle.campaign_draw.specs.Draw.{campaignRefusal}
 use Rattle.pool.specs.Pool.{poolRefusal}
 use Rattle.demands.specs.Refusals.{Lowest, Refuses, EachRefuses}
 

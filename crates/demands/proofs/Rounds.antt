@@ -12,10 +12,10 @@ use Rattle.base.proofs.Sums.{list-append, sum-ext, sum-le, sum-zero, sum-add, s
 use Rattle.base.proofs.Tests.{test-times, test-parts, test-le}
 use Rattle.table.specs.Table.{total}
 use Rattle.table.specs.Whole.{down, up}
-use Rattle.form.specs.Plan.{Plan}
+use Rattle.weighted_arrays.specs.Plan.{Plan}
 use Rattle.opening.specs.Open.{heldTo}
 use Rattle.opening.proofs.Sound.{Sound}
-use Rattle.campaign.specs.Calls.{Made}
+use Rattle.campaign_draw.specs.Draw.{Made}
 use Rattle.records.proofs.Numbers.{array-entry, planned-sum}
 use Rattle.demands.specs.Runs.{used, overAccepted, accepted, drawn, unused, inTurn}
 use Rattle.demands.specs.Claim.{RoundClaim, CompletedClaim}

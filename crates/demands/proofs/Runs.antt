@@ -17,13 +17,16 @@ use Rattle.refusals.specs.declared.Refusal.the-variants as refusal
 use Rattle.refusals.specs.Answer.{answerNumber}
 use Rattle.refusals.specs.Due.{Test, refuse, due, answerOf, after}
 use Rattle.refusals.proofs.Dues.{due-second, not-here, not-later}
-use Rattle.form.specs.Plan.{Plan, cellCount}
+use Rattle.weighted_arrays.specs.Plan.{Plan, cellCount}
 use Rattle.form.specs.Form.{sizesOf, decode}
-use Rattle.form.specs.Contracts.{Sized}
-use Rattle.form.proofs.Sizing.{denominator-is, sized-some}
-use Rattle.opening.specs.Open.{openTests, openRefusal, Opens, drawRefusal, drawnArray}
-use Rattle.records.specs.Record.{CampaignRecord, maxRounds, bitOf, roomFor}
-use Rattle.campaign.specs.Calls.{startTests, startRefusal, cleared, campaignRefusal, taking, closed, started, Asked, Made, made}
+use Rattle.reading.specs.Contracts.{Sized}
+use Rattle.reading.proofs.Sizing.{denominator-is, sized-some}
+use Rattle.opening.specs.Open.{openTests, openRefusal, Opens}
+use Rattle.drawing.specs.Draw.{drawRefusal, drawnArray}
+use Rattle.records.specs.Record.{CampaignRecord, maxRounds, roomFor}
+use Rattle.bits.specs.Bits.{bitOf}
+use Rattle.campaign_start.specs.Start.{startTests, startRefusal, cleared, started}
+use Rattle.campaign_draw.specs.Draw.{campaignRefusal, taking, closed, Asked, Made, made}
 use Rattle.demands.specs.Runs.{draws, lastRecord, used, Rounds, oneMore, further}
 use Rattle.demands.specs.Claim.{DrawClaim}
 use Rattle.opening.proofs.Opening.{opens-layout}

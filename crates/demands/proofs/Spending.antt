@@ -13,8 +13,8 @@ use Rattle.base.proofs.Sums.{list-append, sum-ext, sum-zero, sum-one-more}
 use Rattle.refusals.specs.declared.Answer.{Answer}
 use Rattle.refusals.specs.declared.Answer.the-variants.{Done, Refused}
 use Rattle.refusals.specs.declared.Refusal.{Refusal}
-use Rattle.form.specs.Plan.{Plan, cellCount, arrayFor}
-use Rattle.campaign.specs.Calls.{Made}
+use Rattle.weighted_arrays.specs.Plan.{Plan, cellCount, arrayFor}
+use Rattle.campaign_draw.specs.Draw.{Made}
 use Rattle.demands.specs.Runs.{isDone, used, overAccepted}
 
 used-more : (h : List Made) (t : Made) (d : ℕ) → used (h ++ (t ∷ [])) d ≡ (used h d || isDone (t .answer) && eqb (t .asked .number) d)

@@ -6,7 +6,7 @@ use Prim.Native.Nat.{ℕ, _+_, _*_, _/_, _<_, _≤_}
 use native.Mathlib.Omega.{arith}
 use lib.ListN.{length, getD, take, replicate, length-set, length-append, length-replicate, getD-replicate}
 use lib.Seq.{drop-set-lt}
-use lib.Dec.{leb, ltb, eqb}
+use lib.Dec.{ltb, eqb}
 use borrow.Author.Tests.{le-leb, lt-ltb, ltb-false, eqb-true, eqb-false, eq-eqb, ne-eqb}
 use Rattle.base.specs.Lists.{sum, tabulate, sumTo}
 use Rattle.base.specs.Buffers.{written}
@@ -18,11 +18,13 @@ use Rattle.table.specs.Table.{total}
 use Rattle.table.proofs.Totals.{total-one}
 use Rattle.refusals.specs.declared.Answer.the-variants.{Done, Refused}
 use Rattle.refusals.specs.declared.Refusal.{Refusal}
-use Rattle.form.specs.Plan.{Plan, cellCount, arrayFor}
+use Rattle.weighted_arrays.specs.Plan.{Plan, cellCount, arrayFor}
 use Rattle.opening.proofs.Sound.{Sound}
-use Rattle.records.specs.Record.{CampaignRecord, recordOf, bitOf, bitBytes, spareClear, takenSum, within, fits, roomFor}
-use Rattle.campaign.specs.Calls.{cleared, taking, closed, Made}
-use Rattle.records.proofs.Bits.{bit-set, bit-clear}
+use Rattle.records.specs.Record.{CampaignRecord, recordOf, spareClear, takenSum, within, fits, roomFor}
+use Rattle.bits.specs.Bits.{bitOf, bitBytes}
+use Rattle.campaign_start.specs.Start.{cleared}
+use Rattle.campaign_draw.specs.Draw.{taking, closed, Made}
+use Rattle.bits.proofs.Bits.{bit-set, bit-clear}
 use Rattle.records.proofs.Long.{room-bits, room-tally}
 use Rattle.demands.specs.Runs.{used, overAccepted, accepted, drawn, Rounds, oneMore, inTurn}
 use Rattle.demands.specs.Claim.{RecordClaim}

@@ -11,8 +11,10 @@ use Rattle.form.specs.Examples.{square}
 use Rattle.opening.specs.Open.{heldTo}
 use Rattle.opening.specs.Examples.{grandVaries}
 use Rattle.records.specs.Record.{CampaignRecord, recordOf}
-use Rattle.campaign.specs.Calls.{started, Asked}
-use Rattle.campaign.specs.Examples.{single, any, late, five}
+use Rattle.campaign_start.specs.Start.{started}
+use Rattle.campaign_draw.specs.Draw.{Asked}
+use Rattle.campaign_start.specs.Examples.{single, any}
+use Rattle.campaign_draw.specs.Examples.{late, five}
 use Rattle.demands.specs.Runs.{draws, lastRecord, used, accepted, drawn, unused, roundsOf}
 use Rattle.demands.specs.Claim.{numberDue}
 

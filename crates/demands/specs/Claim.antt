@@ -13,11 +13,14 @@ use Rattle.table.specs.Whole.{down, up}
 use Rattle.refusals.specs.Answer.{answerNumber}
 use Rattle.refusals.specs.declared.Answer.the-variants.{Done, Refused}
 use Rattle.refusals.specs.declared.Refusal.{Refusal}
-use Rattle.form.specs.Plan.{Plan, cellCount}
+use Rattle.weighted_arrays.specs.Plan.{Plan, cellCount}
 use Rattle.form.specs.Form.{decode}
-use Rattle.opening.specs.Open.{heldTo, Opens, drawRefusal, drawnArray}
-use Rattle.records.specs.Record.{CampaignRecord, maxRounds, bitOf, bitBytes, roomFor}
-use Rattle.campaign.specs.Calls.{started, Asked, Made}
+use Rattle.opening.specs.Open.{heldTo, Opens}
+use Rattle.drawing.specs.Draw.{drawRefusal, drawnArray}
+use Rattle.records.specs.Record.{CampaignRecord, maxRounds, roomFor}
+use Rattle.bits.specs.Bits.{bitOf, bitBytes}
+use Rattle.campaign_start.specs.Start.{started}
+use Rattle.campaign_draw.specs.Draw.{Asked, Made}
 use Rattle.demands.specs.Runs.{draws, lastRecord, used, accepted, drawn, unused, Rounds, roundsOf, inTurn}
 
 -- what a draw returns after so many completed rounds, with the draws before it in its round: 7 where its buffer is too short, else 8 where its number is not

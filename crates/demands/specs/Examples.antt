@@ -6,7 +6,7 @@ use lib.ListN.{replicate}
 use Rattle.base.specs.Lists.{tabulate}
 use Rattle.table.specs.Table.{maxRows, maxColumns, maxDenominator}
 use Rattle.table.specs.Check.{checkedNumber, checkOf}
-use Rattle.form.specs.Plan.{Plan, arrayFor}
+use Rattle.weighted_arrays.specs.Plan.{Plan, arrayFor}
 use Rattle.planning.specs.Rounds.{planOf}
 
 -- what an example says of a table: its plan, for each array the weight and then the counts; the arrays that draw numbers 0, 1, .. belong to; or the

@@ -7,7 +7,7 @@ use lib.ListN.{length, getD}
 use Rattle.base.specs.Lists.{sum}
 use Rattle.table.specs.Table.{maxExpected, total}
 use Rattle.table.specs.Whole.{roundsTo}
-use Rattle.form.specs.Plan.{Weighted, Plan, cellCount}
+use Rattle.weighted_arrays.specs.Plan.{Weighted, Plan, cellCount}
 use Rattle.form.specs.Form.{laidOut, decode}
 use Rattle.opening.specs.Open.{heldTo, weighted}
 

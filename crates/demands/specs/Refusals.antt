@@ -12,12 +12,14 @@ use Rattle.refusals.specs.Due.{Test, refuse, noneApplies}
 use Rattle.rounding.specs.Call.{roundTests, roundRefusal}
 use Rattle.corrections.specs.Call as corrections
 use Rattle.plan.specs.Call.{planTests, planRefusal}
-use Rattle.opening.specs.Open.{openTests, openRefusal, drawTests, drawRefusal, partTests, partRefusal}
+use Rattle.opening.specs.Open.{openTests, openRefusal, partTests, partRefusal}
+use Rattle.drawing.specs.Draw.{drawTests, drawRefusal}
 use Rattle.plan_parts.specs.Array.{arrayTests, arrayRefusal}
-use Rattle.reasons.specs.Call.{replyTests, replyRefusal}
+use Rattle.reason_numbers.specs.Numbers.{replyTests, replyRefusal}
 use Rattle.pool.specs.Pool.{poolTests, poolRefusal}
 use Rattle.records.specs.Record.{CampaignRecord}
-use Rattle.campaign.specs.Calls.{startTests, startRefusal, campaignTests, campaignRefusal}
+use Rattle.campaign_start.specs.Start.{startTests, startRefusal}
+use Rattle.campaign_draw.specs.Draw.{campaignTests, campaignRefusal}
 
 -- of the conditions of a list, that of x holds, and no condition whose refusal ranks lower does
 pub record Lowest (rank : Refusal → ℕ) (l : List Test) (x : Refusal) : Type 0 where

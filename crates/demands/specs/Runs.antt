@@ -8,9 +8,9 @@ use Rattle.base.specs.Lists.{sum, sumTo}
 use Rattle.table.specs.Table.{total}
 use Rattle.refusals.specs.declared.Answer.{Answer}
 use Rattle.refusals.specs.declared.Answer.the-variants.{Done, Refused}
-use Rattle.form.specs.Plan.{Plan, cellCount, arrayFor}
+use Rattle.weighted_arrays.specs.Plan.{Plan, cellCount, arrayFor}
 use Rattle.records.specs.Record.{CampaignRecord}
-use Rattle.campaign.specs.Calls.{Asked, Made, made}
+use Rattle.campaign_draw.specs.Draw.{Asked, Made, made}
 
 -- a list of campaign draws, refused ones among them: each gets the same plan, and the record as the call before left it
 unfoldable pub draws : List ℕ → CampaignRecord → List Asked → List Made

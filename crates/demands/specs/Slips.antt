@@ -10,15 +10,17 @@ use Rattle.base.specs.Lists.{tabulate, sum, least, all, every}
 use Rattle.table.specs.Table.{total, cellPlaces, entryPlaces}
 use Rattle.table.specs.Whole.{down, whole}
 use Rattle.refusals.specs.Due.{noneApplies}
-use Rattle.rounding.specs.Order.{found, firstOf}
-use Rattle.rounding.specs.Rounding.{isRounding, firstRounding}
-use Rattle.form.specs.Plan.{Weighted, Plan}
+use Rattle.first_rounding.specs.Order.{found, firstOf}
+use Rattle.is_rounding.specs.Rounding.{twoWays, isRounding}
+use Rattle.first_rounding.specs.First.{firstRounding}
+use Rattle.weighted_arrays.specs.Plan.{Weighted, Plan}
 use Rattle.form.specs.Form.{encode, decode}
 use Rattle.form.specs.Examples.{square, withWeight}
-use Rattle.opening.specs.Open.{openTests, drawnArray}
+use Rattle.opening.specs.Open.{openTests}
+use Rattle.drawing.specs.Draw.{drawnArray}
 use Rattle.planning.specs.Rounds.{limitOf, without, planOf}
 use Rattle.records.specs.Record.{CampaignRecord, recordOf}
-use Rattle.campaign.specs.Calls.{Asked, Made, ask, made}
+use Rattle.campaign_draw.specs.Draw.{Asked, Made, ask, made}
 use Rattle.demands.specs.Runs.{draws, lastRecord, drawn}
 
 -- two lists of numbers are the same
@@ -132,12 +134,12 @@ slips =
     -- limits over cells: the total of the first column, 8 over 10, comes to 2
     ∷ slip (keepsTotal 10 first (0 ∷ 2 ∷ []) (planOf 2 2 10 first .arrays)) (keepsTotal 10 first (0 ∷ 2 ∷ []) (roundsOverCells 10 2 2 10 first))
     -- mending along the rows, and along the columns: no controlled rounding
-    ∷ slip (isRounding 2 2 2 halves (firstRounding 2 2 2 halves)) (isRounding 2 2 2 halves (mended 2 halves (0 ∷ 1 ∷ 2 ∷ 3 ∷ []) (alone 2 halves)))
-    ∷ slip (isRounding 2 2 2 halves (firstRounding 2 2 2 halves)) (isRounding 2 2 2 halves (mended 2 halves (0 ∷ 2 ∷ 1 ∷ 3 ∷ []) (alone 2 halves)))
+    ∷ slip (isRounding (twoWays 2 2) 2 halves (firstRounding 2 2 2 halves)) (isRounding (twoWays 2 2) 2 halves (mended 2 halves (0 ∷ 1 ∷ 2 ∷ 3 ∷ []) (alone 2 halves)))
+    ∷ slip (isRounding (twoWays 2 2) 2 halves (firstRounding 2 2 2 halves)) (isRounding (twoWays 2 2) 2 halves (mended 2 halves (0 ∷ 2 ∷ 1 ∷ 3 ∷ []) (alone 2 halves)))
     -- along the diagonal: a controlled rounding, as `mended-rounds` says, and not the first
     ∷ slip (same (0 ∷ 1 ∷ 1 ∷ 0 ∷ []) (firstRounding 2 2 2 halves)) (same (0 ∷ 1 ∷ 1 ∷ 0 ∷ []) (mended 2 halves (0 ∷ 3 ∷ 1 ∷ 2 ∷ []) (alone 2 halves)))
     -- one row 1 1 2 over 2: its whole cell rises to 2
-    ∷ slip (isRounding 1 3 2 (1 ∷ 1 ∷ 2 ∷ []) (firstRounding 1 3 2 (1 ∷ 1 ∷ 2 ∷ []))) (isRounding 1 3 2 (1 ∷ 1 ∷ 2 ∷ []) (firstLoose 1 3 2 (1 ∷ 1 ∷ 2 ∷ [])))
+    ∷ slip (isRounding (twoWays 1 3) 2 (1 ∷ 1 ∷ 2 ∷ []) (firstRounding 1 3 2 (1 ∷ 1 ∷ 2 ∷ []))) (isRounding (twoWays 1 3) 2 (1 ∷ 1 ∷ 2 ∷ []) (firstLoose 1 3 2 (1 ∷ 1 ∷ 2 ∷ [])))
     -- number 0 drawn twice, the second time refused
     ∷ slip (tallied (draws square cleared twice)) (tallied (drawsCountingAll square cleared twice))
     ∷ []
@@ -146,4 +148,4 @@ slips =
 pub record SlipsShut : Type 0 where
   pub right : all (λ x. x .right) slips ≡ true
   pub wrong : all (λ x. not (x .wrong)) slips ≡ true
-  pub mended-rounds : isRounding 2 2 2 halves (mended 2 halves (0 ∷ 3 ∷ 1 ∷ 2 ∷ []) (alone 2 halves)) ≡ true
+  pub mended-rounds : isRounding (twoWays 2 2) 2 halves (mended 2 halves (0 ∷ 3 ∷ 1 ∷ 2 ∷ []) (alone 2 halves)) ≡ true

@@ -18,7 +18,7 @@ ghost use Rattle.refusals.specs.Due.{Answers};
 ghost use Rattle.table.specs.Table.{maxRows, maxColumns, maxEntries, entryPlaces};
 ghost use Rattle.table.specs.Whole.{down, whole};
 ghost use Rattle.table.specs.Check.{tableRefusal};
-ghost use Rattle.form.specs.Plan.{Weighted};
+ghost use Rattle.weighted_arrays.specs.Plan.{Weighted};
 ghost use Rattle.opening.specs.Open.{Opens};
 ghost use Rattle.planning.specs.Rounds.{limitOf};
 ghost use Rattle.plan.specs.declared.Planned.{Planned};

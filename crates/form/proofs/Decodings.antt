@@ -12,11 +12,13 @@ use Rattle.base.proofs.Lists.{all-tabulate}
 use Rattle.base.proofs.Tabulated.{tabulate-getD}
 use Rattle.table.specs.Table.{maxDenominator, maxArrays}
 use Rattle.table.specs.Contracts.{Shape}
-use Rattle.form.specs.Plan.{Weighted, Plan, arrayAt}
-use Rattle.form.specs.Form.{bytes, number, head, contentsEntry, bodyAt, amountIn, encode, decode, headRight, laidOut, formOf, rowsOf, columnsOf, arraysOf, zeroOf, amountOf, offsetOf, denominatorOf, cellOf, countOf}
+use Rattle.weighted_arrays.specs.Plan.{Weighted, Plan, arrayAt}
+use Rattle.byte_numbers.specs.Bytes.{bytes, number}
+use Rattle.form.specs.Form.{head, contentsEntry, bodyAt, amountIn, encode, decode, headRight, laidOut, formOf, rowsOf, columnsOf, arraysOf, zeroOf, amountOf, offsetOf, denominatorOf, cellOf, countOf}
 use Rattle.base.proofs.Joins.{holds-left, holds-right}
 use Rattle.form.proofs.Layouts.{offset-fits}
-use Rattle.form.proofs.Encodings.{length-bytes, number-held, encode-length, holds-entry, holds-cell, holds-count}
+use Rattle.byte_numbers.proofs.Held.{length-bytes, number-held}
+use Rattle.form.proofs.Encodings.{encode-length, holds-entry, holds-cell, holds-count}
 
 -- an array of n counts whose numbers fit their bytes
 pub record FitArray (n : ℕ) (a : Weighted) : Type 0 where

@@ -3,7 +3,8 @@ use mathlib.Core.Path.{_≡_, refl}
 use mathlib.Core.Bool.{true}
 use mathlib.Core.List.{map}
 use Rattle.base.specs.Lists.{tabulate, joinTo, all}
-use Rattle.form.specs.Form.{bytes, number, head, contentsEntry, encode, decode, headRight, laidOut}
+use Rattle.byte_numbers.specs.Bytes.{bytes, number}
+use Rattle.form.specs.Form.{head, contentsEntry, encode, decode, headRight, laidOut}
 use Rattle.form.specs.Examples.{stored}
 
 pub laid-hold : all (λ x. laidOut (x .bytes)) stored ≡ true

@@ -1,7 +1,7 @@
 -- Stored plans typed out byte by byte from their layout (specification, "Stored plan, form 1"); no definition of this project builds them. Assumes nothing.
 use mathlib.Core.List.{List, [], _∷_}
 use Prim.Native.Nat.{ℕ}
-use Rattle.form.specs.Plan.{Weighted, Plan}
+use Rattle.weighted_arrays.specs.Plan.{Weighted, Plan}
 
 -- the third table of the examples: two by two, D 2, all cells 1
 abbrev pub square : List ℕ

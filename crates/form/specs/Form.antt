@@ -1,24 +1,15 @@
 -- Stored plan, form 1 (specification, "Stored plan, form 1"). Assumes nothing.
 use mathlib.Core.Bool.{Bool, _&&_}
-use mathlib.Core.List.{List, [], _∷_, _++_}
-use Prim.Native.Nat.{ℕ, zero, suc, _+_, _*_, _/_, _%_}
+use mathlib.Core.List.{List, _++_}
+use Prim.Native.Nat.{ℕ, zero, suc, _+_, _*_}
 use lib.ListN.{length, getD}
 use lib.Dec.{eqb}
 use Rattle.base.specs.Lists.{tabulate, joinTo, every}
 use Rattle.table.specs.Table.{maxRows, maxColumns, maxArrays, maxDenominator}
 use Rattle.table.specs.Check.{upTo}
 use Rattle.form.specs.declared.Sizes.{Sizes}
-use Rattle.form.specs.Plan.{Plan, arrayAt}
-
--- a number in n bytes, the low one first
-unfoldable pub bytes : ℕ → ℕ → List ℕ
-bytes zero x = []
-bytes (suc n) x = x % 256 ∷ bytes n (x / 256)
-
--- the number in the n bytes from a place on
-unfoldable pub number : ℕ → List ℕ → ℕ → ℕ
-number zero b at = 0
-number (suc n) b at = getD b at 0 + 256 * number n b (at + 1)
+use Rattle.weighted_arrays.specs.Plan.{Plan, arrayAt}
+use Rattle.byte_numbers.specs.Bytes.{bytes, number}
 
 -- where body i of a plan with k arrays begins: 0 is the table's, with 4 bytes a cell, i is array i's, with 2; they follow one another
 abbrev pub bodyAt : ℕ → ℕ → ℕ → ℕ → ℕ

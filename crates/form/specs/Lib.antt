@@ -1,5 +1,3 @@
-pub mod Plan
 pub mod Form
-pub mod Find
 pub mod Contracts
 pub mod Examples

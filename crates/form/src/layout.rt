@@ -6,9 +6,9 @@ ghost use lib.ListN.{length};
 ghost use Rattle.form.specs.Form.{bodyAt, planLength, lengthOf, amountOf, offsetOf, sizesOf, startRight, headRight, laidOut};
 ghost use Rattle.form.specs.Contracts.{Bounded, Contents, offsetsRight};
 use crate::Sizes;
-use crate::bytes::four;
-use crate::bytes::one;
-use crate::bytes::two;
+use byte_numbers::read::four;
+use byte_numbers::read::one;
+use byte_numbers::read::two;
 use table::Table;
 use table::check::up_to;
 

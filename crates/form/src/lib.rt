@@ -1,4 +1,4 @@
-// Stored plans, form 1: numbers in bytes, the layout, and the readers of a plan's table, weights and arrays. No other crate knows an offset or a width.
+// Stored plans, form 1, and their layout. Only the crates that write and read a plan's bytes know an offset or a width from here.
 ghost use mathlib.Core.Path.{_≡_};
 ghost use mathlib.Core.Bool.{true};
 ghost use mathlib.Core.List.{map};
@@ -6,10 +6,7 @@ ghost use Rattle.base.specs.Lists.{all};
 ghost use Rattle.form.specs.Form.{minLength, maxLength, planLength, encode, decode, laidOut};
 ghost use Rattle.form.specs.Examples.{stored};
 
-pub mod bytes;
-pub mod find;
 pub mod layout;
-pub mod read;
 
 // The sizes of a plan.
 pub struct Sizes {

@@ -3,3 +3,4 @@ pub mod Grids
 pub mod GridSums
 pub mod GridTests
 pub mod GridBounds
+pub mod CellWrites

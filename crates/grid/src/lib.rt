@@ -11,6 +11,8 @@ use table::Checked;
 use table::Table;
 use table::sums::sum;
 
+pub mod write;
+
 // The entry at row p and column q of the grid.
 pub fn entry(t: Table, cells: &[u32], p: usize, q: usize) -> u64
     requires { ⌜ Shape (t .rows) (t .columns) (now cells) ⌝ }

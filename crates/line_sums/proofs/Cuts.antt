@@ -6,8 +6,8 @@ use native.Mathlib.Nat.{mul-le-mul-left, mul-lt-mul-of-pos-left, mul-zero, mul-o
 use native.Mathlib.Omega.{arith}
 use Rattle.base.specs.Lists.{sumTo}
 use Rattle.sets.specs.Contracts.{on, has}
-use Rattle.line_sums.specs.Level.{Stuck}
-use Rattle.line_sums.specs.Board.{boardOf, Places, rowSum, colSum, Feasible}
+use Rattle.paths.specs.Contracts.{Stuck}
+use Rattle.line_sums.specs.Contracts.{boardOf, Places, rowSum, colSum, Feasible}
 use Rattle.base.proofs.Sums.{sum-ext, sum-le, sum-lt, sum-mul}
 use Rattle.line_sums.proofs.DoubleSums.{by-rows, by-cols, sum-both}
 use Rattle.sets.proofs.Members.{on-le}

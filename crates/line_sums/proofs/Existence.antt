@@ -1,7 +1,7 @@
 -- Where a fractional matrix has given line sums, a matrix of 0 and 1 has them. A cut forbids that where the rows of a set need more than the columns of a
 -- set need and the places between allow; a fractional matrix shows that none does. Then any place can be fixed at 0 or at 1 so that still none does: a cut
 -- that forbids the 0 and one that forbids the 1 would, by their union and their meet, be one that forbids both. Assumes nothing.
-use mathlib.Core.Path.{_≡_, refl, sym, ap, ap₂, _∙_}
+use mathlib.Core.Path.{_≡_, sym, ap, ap₂, _∙_}
 use mathlib.Core.List.{List}
 use Prim.Native.Nat.{ℕ, zero, suc, _+_, _-_, _*_, _/_, _%_, _<_, _≤_, min, max}
 use native.Mathlib.Nat.{le-refl, le-antisymm, mul-left-comm, zero-add, le-trans, sub-le, max-eq-left, max-eq-right, min-eq-left, min-eq-right, mul-zero, one-mul, mul-one, mul-add, add-mul, mul-le-mul-right, zero-mul, lt-of-not-le, le-of-mul-le-mul-left}
@@ -12,10 +12,10 @@ use Rattle.base.specs.Lists.{sumTo}
 use Rattle.base.proofs.Sums.{sum-ext, sum-le, sum-lt, sum-zero, sum-add, sum-mul, sum-swap, sum-term, sum-one-more}
 use Rattle.sets.specs.Contracts.{ind}
 use Rattle.sets.proofs.Indicators.{ind-same, ind-other, ind-le}
-use Rattle.line_sums.specs.Matrix.{at, Caps, Matrix, Solvable}
-use Rattle.line_sums.specs.Move.{samePlace}
+use Rattle.line_sums.specs.Contracts.{at, Caps, Matrix, Solvable}
+use Rattle.paths.specs.Contracts.{samePlace}
 use Rattle.line_sums.proofs.DoubleSums.{by-rows, by-cols, sum-both}
-use Rattle.line_sums.proofs.Paths.{place-in-row, place-other-row, place-other-col, place-swap, sum-place}
+use Rattle.paths.proofs.Paths.{place-in-row, place-other-row, place-other-col, place-swap, sum-place}
 
 abbrev Grid : Type 0
 Grid = ℕ → ℕ → ℕ

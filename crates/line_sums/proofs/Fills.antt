@@ -12,9 +12,8 @@ use lib.Seq.{getD-set-same, getD-set-other}
 use Rattle.base.specs.Lists.{sumTo}
 use Rattle.base.proofs.Sums.{sum-ext, sum-add, sum-mul, sum-swap, sum-term}
 use Rattle.sets.specs.Contracts.{num, ind, on, Without, Nonzero}
-use Rattle.line_sums.specs.Level.{Stuck}
-use Rattle.line_sums.specs.Move.{OneMore, Augmented}
-use Rattle.line_sums.specs.Board.{Board, boardOf, Places, rowSum, colSum, Feasible, Room, RowsFilled, Lacking, StillLacking}
+use Rattle.paths.specs.Contracts.{Stuck, OneMore, Augmented}
+use Rattle.line_sums.specs.Contracts.{Board, boardOf, Places, rowSum, colSum, Feasible, Room, RowsFilled, Lacking, StillLacking}
 use Rattle.sets.proofs.Indicators.{ind-same, ind-other}
 use Rattle.line_sums.proofs.Fixes.{places-more, row-more, col-more}
 use Rattle.line_sums.proofs.Cuts.{cut}

@@ -7,10 +7,9 @@ use native.Mathlib.Omega.{arith}
 use lib.ListN.{getD, set, length-set, replicate, getD-replicate}
 use Rattle.base.specs.Lists.{sumTo}
 use Rattle.base.proofs.Sums.{sum-ext, sum-zero}
-use Rattle.line_sums.specs.Matrix.{at, Caps, Matrix, Solvable, nthCell, FirstMatrix}
+use Rattle.line_sums.specs.Contracts.{at, Caps, Matrix, Solvable, nthCell, FirstMatrix, Board, boardOf, start, Places, rowSum, colSum, Flow, Feasible, RowsFilled, First, FreeOf, CopyOf, BytesOf}
 use Rattle.cell_order.specs.Order.{nthRow, nthColumn}
 use Rattle.sets.specs.Contracts.{on, has}
-use Rattle.line_sums.specs.Board.{Board, boardOf, start, Places, rowSum, colSum, Flow, Feasible, RowsFilled, First, FreeOf, CopyOf, BytesOf}
 use Rattle.base.proofs.Lists.{each-more}
 use Rattle.sets.proofs.Members.{on-zero}
 use Rattle.line_sums.proofs.Fills.{no-lack}

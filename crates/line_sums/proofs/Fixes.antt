@@ -10,13 +10,11 @@ use Rattle.base.specs.Lists.{sumTo}
 use Rattle.cell_order.specs.Order.{nthRow, nthColumn, rank}
 use Rattle.cell_order.proofs.Ranks.{rank-row, rank-column}
 use Rattle.sets.specs.Contracts.{ind, on, has, Single, With, Without}
-use Rattle.line_sums.specs.Matrix.{nthCell}
-use Rattle.line_sums.specs.Level.{Stuck}
-use Rattle.line_sums.specs.Move.{samePlace, rowOnes, colOnes, NotBoth, OneMore}
-use Rattle.line_sums.specs.Board.{Board, boardOf, Places, rowSum, colSum, Flow, Allowed, Fixed, First, PlaceFixed}
+use Rattle.line_sums.specs.Contracts.{nthCell, Board, boardOf, Places, rowSum, colSum, Flow, Allowed, Fixed, First, PlaceFixed}
+use Rattle.paths.specs.Contracts.{Stuck, samePlace, rowOnes, colOnes, NotBoth, OneMore}
 use Rattle.base.proofs.Sums.{sum-ext, sum-add}
 use Rattle.sets.proofs.Indicators.{ind-same, ind-eq}
-use Rattle.line_sums.proofs.Paths.{place-swap, place-other-row, place-other-col, place-in-row, gain-row, gain-col, taken, put}
+use Rattle.paths.proofs.Paths.{place-swap, place-other-row, place-other-col, place-in-row, gain-row, gain-col, taken, put}
 use Rattle.line_sums.proofs.Cuts.{cut}
 use Rattle.line_sums.proofs.Cells.{row-below, column-below, rank-is, row-inside, column-inside}
 

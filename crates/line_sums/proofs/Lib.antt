@@ -1,6 +1,4 @@
 mod DoubleSums
-mod Searches
-mod Paths
 mod Cuts
 mod Fixes
 mod Fills

@@ -1,4 +1,1 @@
-pub mod Matrix
-pub mod Level
-pub mod Move
-pub mod Board
+pub mod Contracts

@@ -2,8 +2,8 @@
 ghost use Prim.Native.Nat.{_*_};
 ghost use lib.ListN.{getD};
 ghost use Rattle.sets.specs.Contracts.{ind, MemberOf};
-ghost use Rattle.line_sums.specs.Board.{Lacking, RowReady, FillReady, FilledBy, StillLacking};
-use crate::search::augment;
+ghost use Rattle.line_sums.specs.Contracts.{Lacking, RowReady, FillReady, FilledBy, StillLacking};
+use paths::augment;
 use sets::nonzero;
 use sets::without;
 

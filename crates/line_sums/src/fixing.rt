@@ -1,8 +1,8 @@
 // The first of the matrices with the same line sums. `one` has for each row the columns whose place is fixed at 1.
-ghost use Rattle.line_sums.specs.Board.{Places, LowerReady, FixReady, PlaceFixed, CellsFixed};
-use crate::search::augment;
+ghost use Rattle.line_sums.specs.Contracts.{Places, LowerReady, FixReady, PlaceFixed, CellsFixed};
 use cell_order::nth_column;
 use cell_order::nth_row;
+use paths::augment;
 use sets::member;
 use sets::single;
 use sets::with;

@@ -1,5 +1,5 @@
 // Which matrix of 0 and 1 with given line sums comes first?
-ghost use Rattle.line_sums.specs.Matrix.{Asked, FirstMatrix};
+ghost use Rattle.line_sums.specs.Contracts.{Asked, FirstMatrix};
 use crate::fill::fill;
 use crate::fixing::fix_all;
 use crate::places::bytes_of;
@@ -9,7 +9,6 @@ use crate::places::free_places;
 mod fill;
 mod fixing;
 mod places;
-mod search;
 
 // The first matrix of 0 and 1, in row order of its cells, that is at most `cap` and has the given line sums.
 pub fn first(cap: &[u8; 169], rows: &[u8; 13], cols: &[u8; 13]) -> [u8; 169]

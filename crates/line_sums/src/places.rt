@@ -1,8 +1,8 @@
-// Between a grid of bytes, in row order, and sets of places (`up`, `down`: see search; `one`: see fixing).
+// Between a grid of bytes, in row order, and sets of places (`up`, `down`: see paths; `one`: see fixing).
 ghost use mathlib.Core.Path.{_≡_};
 ghost use Prim.Native.Nat.{ℕ, _+_, _*_, _≤_, _<_};
 ghost use Rattle.sets.specs.Contracts.{on, has};
-ghost use Rattle.line_sums.specs.Board.{FreeReady, FreeOf, CopyOf, BitReady, WriteReady, BytesOf};
+ghost use Rattle.line_sums.specs.Contracts.{FreeReady, FreeOf, CopyOf, BitReady, WriteReady, BytesOf};
 use sets::member;
 use sets::nonzero;
 

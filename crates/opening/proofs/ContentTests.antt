@@ -17,23 +17,22 @@ use Rattle.base.proofs.Sums.{sum-places}
 use Rattle.base.proofs.SumLoops.{sum-more}
 use Rattle.base.proofs.Every.{Passed, passed-none, passed-more, passed-all, every-not, every-ext, every-place}
 use Rattle.base.proofs.Buffers.{written-front}
-use Rattle.table.specs.Table.{total}
-use Rattle.table.specs.Whole.{roundsTo}
+use Rattle.table.specs.Table.{entryPlaces}
 use Rattle.table.specs.Check.{cellsWithin}
 use Rattle.table.specs.Contracts.{Shape}
-use Rattle.table.proofs.Roundings.{rounds-between}
 use Rattle.form.specs.declared.Sizes.{Sizes}
-use Rattle.form.specs.Plan.{Weighted, Plan, arrayAt, cellCount}
+use Rattle.weighted_arrays.specs.Plan.{Weighted, Plan, arrayAt, cellCount}
 use Rattle.form.specs.Form.{decode}
-use Rattle.form.proofs.Readings.{counts-length, cells-length}
-use Rattle.opening.specs.Open.{heldTo, held, weighted, consistent}
-use Rattle.opening.specs.Lines.{Bounds, entriesBetween, Counts}
-use Rattle.opening.specs.Weighted.{Addable, Increased, cellsMet}
-use Rattle.form.specs.Contracts.{Sized}
-use Rattle.opening.specs.Contracts.{weightsRight, arraysRight, weightsBefore, weightAt, SumsTo, ArraysTo, ArrayTested, ArraysTested, TableOf}
-use Rattle.form.proofs.Sizing.{arrays-are, cells-are, rows-are, columns-are, denominator-is, sized-few, sized-arrays, sized-some, sized-denominator, sized-shape}
-use Rattle.opening.proofs.Weighting.{sums-none, sums-addable, sums-more}
-use Rattle.opening.proofs.Scratch.{scratch-room, counts-read}
+use Rattle.reading.proofs.Readings.{counts-length, cells-length}
+use Rattle.is_rounding.proofs.Rounded.{between-rounds}
+use Rattle.opening.specs.Open.{held, weighted, consistent}
+use Rattle.is_rounding.specs.Contracts.{Bounds, entriesBetween, Counts}
+use Rattle.weighted_arrays.specs.Contracts.{Addable, Increased, cellsMet, weightsBefore, weightAt, SumsTo}
+use Rattle.reading.specs.Contracts.{Sized}
+use Rattle.opening.specs.Contracts.{weightsRight, arraysRight, ArraysTo, ArrayTested, ArraysTested, TableOf}
+use Rattle.reading.proofs.Sizing.{arrays-are, cells-are, rows-are, columns-are, denominator-is, sized-few, sized-arrays, sized-some, sized-denominator, sized-shape}
+use Rattle.weighted_arrays.proofs.Weighting.{sums-none, sums-addable, sums-more}
+use Rattle.reading.proofs.Scratch.{scratch-room, counts-read}
 
 -- the first k weights are at least 1, and s is their sum
 pub record Weighed (l : List Weighted) (k s : ℕ) : Type 0 where
@@ -93,17 +92,11 @@ module _ {s : Sizes} {b : List ℕ} (z : Sized s b) where
       pub read-counts : Counts (s .rows) (s .columns) (take n scratch) low high
       read-counts = rw (counts-read z h e) (record { shape = sized-shape z array (counts-length b k (rw (arrays-are z) h)); room = t .bounds .room })
 
-      entries-held : entriesBetween (s .rows) (s .columns) array low high ≡ held (decode b) (arrayAt (decode b .arrays) k)
-      unfolding entriesBetween
-      entries-held =
-          let test : List ℕ → Bool = λ q. roundsTo (s .denominator) (total (decode b .cells) q) (total array q) in
-          every-ext (length (heldTo (s .rows) (s .columns))) _ (λ e. test (getD (heldTo (s .rows) (s .columns)) e []))
-          (λ e i. rw (t .bounds .lows e i, t .bounds .highs e i) (sym (rounds-between (s .denominator) _ _)))
-          ∙ every-place test (heldTo (s .rows) (s .columns)) []
-          ∙ rw (rows-are z, columns-are z, denominator-is z) refl
+      entries-held : entriesBetween (entryPlaces (s .rows) (s .columns)) array low high ≡ held (decode b) (arrayAt (decode b .arrays) k)
+      entries-held = between-rounds (t .bounds) array ∙ rw (rows-are z, columns-are z, denominator-is z) refl
 
       pub array-tested : {w : ℕ} {r : Bool} {new : List ℕ} → w ≡ weightAt (decode b .arrays) k → Increased w (take n scratch) sums new
-          → r ≡ entriesBetween (s .rows) (s .columns) (take n scratch) low high
+          → r ≡ entriesBetween (entryPlaces (s .rows) (s .columns)) (take n scratch) low high
           → ArrayTested b k r new
       array-tested {w} {r} {new} q i a = record {
         answer = (rw (counts-read z h e) at a) ∙ entries-held;
@@ -141,7 +134,7 @@ module _ {s : Sizes} {b cells : List ℕ} (t : TableOf s b cells) where
   pub table-shape : Shape (s .rows) (s .columns) cells
   table-shape = sized-shape z cells (ap length (t .is) ∙ cells-length b)
 
-  pub table-arrays : {low high : List ℕ} → Bounds (s .rows) (s .columns) (s .denominator) cells low high → ArraysTo s b low high 0 (replicate 144 0)
+  pub table-arrays : {low high : List ℕ} → Bounds (entryPlaces (s .rows) (s .columns)) (s .denominator) cells low high → ArraysTo s b low high 0 (replicate 144 0)
   table-arrays u = record {
     sized = z;
     bounds = rw (t .is) at u;

@@ -4,16 +4,16 @@ use mathlib.Core.List.{map}
 use Rattle.base.specs.Lists.{tabulate, sum, joinTo, all}
 use Rattle.table.specs.Table.{total, entryPlaces}
 use Rattle.table.specs.Whole.{whole, roundsTo}
-use Rattle.refusals.specs.Due.{due, answerOf, after}
-use Rattle.form.specs.Plan.{arrayFor}
-use Rattle.form.specs.Form.{number, decode, headRight, laidOut}
-use Rattle.opening.specs.Open.{consistent, openRefusal, openAnswer, drawRefusal}
-use Rattle.opening.specs.Examples.{cases, opened, drawCases, drawn, said}
+use Rattle.refusals.specs.Due.{due, answerOf}
+use Rattle.byte_numbers.specs.Bytes.{number}
+use Rattle.form.specs.Form.{decode, headRight, laidOut}
+use Rattle.opening.specs.Open.{consistent, openRefusal, openAnswer, partRefusal}
+use Rattle.opening.specs.Examples.{cases, opened, parts, partNumber}
 
 pub cases-hold : map opened cases ≡ map (λ x. x .number) cases
 unfolding openAnswer openRefusal due joinTo number headRight laidOut decode consistent tabulate sum all total entryPlaces whole roundsTo
 cases-hold = refl
 
-pub draws-hold : map drawn drawCases ≡ map said drawCases
-unfolding drawRefusal answerOf after arrayFor due number headRight laidOut decode consistent tabulate sum all total entryPlaces whole roundsTo
-draws-hold = refl
+pub parts-hold : map partNumber parts ≡ map (λ x. x .number) parts
+unfolding partRefusal answerOf due joinTo number headRight laidOut decode consistent tabulate sum all total entryPlaces whole roundsTo
+parts-hold = refl

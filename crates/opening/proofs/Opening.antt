@@ -18,8 +18,8 @@ use Rattle.form.specs.Form.{sizesOf, laidOut, decode}
 use Rattle.form.proofs.Layouts.{laid}
 use Rattle.opening.specs.declared.Opened.the-variants as opened
 use Rattle.opening.specs.Open.{consistent, openRefusal, Opens, openAnswer}
-use Rattle.form.specs.Contracts.{Sized}
-use Rattle.form.proofs.Sizing.{sized-fits}
+use Rattle.reading.specs.Contracts.{Sized}
+use Rattle.reading.proofs.Sizing.{sized-fits}
 
 module _ (b : List ℕ) (t : Bool) (e : t ≡ laidOut b) where
   pub not-laid : not t ≡ true → opened.Refused Layout ≡ openAnswer b

@@ -10,7 +10,7 @@ use Rattle.base.specs.Lists.{sum, all}
 use Rattle.base.proofs.Lists.{all-elim, and-left, and-right}
 use Rattle.base.proofs.Every.{every-elim}
 use Rattle.table.specs.Check.{cellsWithin}
-use Rattle.form.specs.Plan.{Plan}
+use Rattle.weighted_arrays.specs.Plan.{Plan}
 use Rattle.form.specs.Form.{decode}
 use Rattle.opening.specs.Open.{held, weighted, consistent, Opens}
 use Rattle.opening.proofs.Opening.{opens-content}

@@ -12,9 +12,9 @@ use Rattle.table.specs.Whole.{down, up}
 use Rattle.table.proofs.Roundings.{rounds-low, rounds-high}
 use Rattle.base.proofs.Lists.{length-tabulate, all-at-member, tabulate-member}
 use Rattle.base.proofs.Sums.{list-add, list-ext, list-zero}
-use Rattle.form.specs.Plan.{Weighted, Plan, cellCount}
+use Rattle.weighted_arrays.specs.Plan.{Weighted, Plan, cellCount}
 use Rattle.form.specs.Form.{decode}
-use Rattle.form.proofs.Readings.{cells-length}
+use Rattle.reading.proofs.Readings.{cells-length}
 use Rattle.opening.specs.Open.{heldTo, held, weighted, Opens}
 use Rattle.opening.proofs.Opens.{Consistent, opens-each}
 

@@ -1,14 +1,13 @@
--- Plans that open, and for each condition of opening some that fail it; and draws (specification, "Stored plan, form 1" and "Refusals"). The bytes are typed out,
+-- Plans that open, and for each condition of opening some that fail it (specification, "Stored plan, form 1" and "Refusals"). The bytes are typed out,
 -- and no definition of this project builds them. Assumes nothing.
 use mathlib.Core.List.{List, [], _∷_, _++_}
 use Prim.Native.Nat.{ℕ, _+_, _*_, _/_, _%_}
-use lib.ListN.{length, set, take, replicate}
+use lib.ListN.{set, take, replicate}
 use Rattle.base.specs.Lists.{joinTo}
-use Rattle.base.specs.Buffers.{written}
 use Rattle.refusals.specs.Answer.{answerNumber}
-use Rattle.refusals.specs.Due.{answerOf, after}
+use Rattle.refusals.specs.Due.{answerOf}
 use Rattle.form.specs.Examples.{square, wide, recurring}
-use Rattle.opening.specs.Open.{openAnswer, openedNumber, drawRefusal, drawnArray}
+use Rattle.opening.specs.Open.{openAnswer, openedNumber, partRefusal}
 
 -- one cell 2 over D 3: equal arrays recur, in any order
 abbrev pub threeOnes : List ℕ
@@ -172,64 +171,34 @@ cases =
     ∷ gives (oneCell 2 0 1 0 ++ (0 ∷ [])) 5
     ∷ []
 
--- a draw: a plan, a number and a buffer; the number that it returns, and the buffer as it leaves it
-pub record Draw : Type 0 where
+-- a call that takes a plan and writes numbers into a buffer: how many it needs and how many there is room for, and the number of the refusal, 0 for none
+pub record Part : Type 0 where
   pub plan : List ℕ
-  pub asked : ℕ
-  pub buffer : List ℕ
+  pub need : ℕ
+  pub room : ℕ
   pub number : ℕ
-  pub result : List ℕ
 
-abbrev pub drawn : Draw → List ℕ
-drawn x =
-    let o = drawRefusal (x .plan) (x .asked) (length (x .buffer)) in
-    answerNumber (answerOf o) ∷ after o (written (drawnArray (x .plan) (x .asked)) (x .buffer)) (x .buffer)
+abbrev pub part : List ℕ → ℕ → ℕ → ℕ → Part
+part b need room n = record { plan = b; need = need; room = room; number = n }
 
-abbrev pub said : Draw → List ℕ
-said x = x .number ∷ x .result
+abbrev pub partNumber : Part → ℕ
+partNumber x = answerNumber (answerOf (partRefusal (x .plan) (x .need) (x .room)))
 
-abbrev pub draws : List ℕ → ℕ → List ℕ → List ℕ → Draw
-draws b d buffer result = record { plan = b; asked = d; buffer = buffer; number = 0; result = result }
+-- the plan of two rows, three columns, seven arrays and D 1000 with a byte more: 5; and with a weight one too large: 6
+abbrev pub longer : List ℕ
+longer = wide ++ (0 ∷ [])
 
-abbrev pub refuses : List ℕ → ℕ → List ℕ → ℕ → Draw
-refuses b d buffer n = record { plan = b; asked = d; buffer = buffer; number = n; result = buffer }
+abbrev pub heavy : List ℕ
+heavy = set wide 16 101
 
-abbrev pub six : List ℕ
-six = 8 ∷ 8 ∷ 8 ∷ 8 ∷ 8 ∷ 8 ∷ []
-
-abbrev pub five : List ℕ
-five = 8 ∷ 8 ∷ 8 ∷ 8 ∷ 8 ∷ []
-
-abbrev pub drawCases : List Draw
-drawCases =
-    -- the arrays begin at numbers 0, 100, 594, 595, 600, 776 and 936
-    draws wide 0 six (300 ∷ 0 ∷ 66 ∷ 1 ∷ 1 ∷ 1 ∷ [])
-    ∷ draws wide 99 six (300 ∷ 0 ∷ 66 ∷ 1 ∷ 1 ∷ 1 ∷ [])
-    ∷ draws wide 100 six (300 ∷ 0 ∷ 66 ∷ 2 ∷ 0 ∷ 1 ∷ [])
-    ∷ draws wide 593 six (300 ∷ 0 ∷ 66 ∷ 2 ∷ 0 ∷ 1 ∷ [])
-    ∷ draws wide 594 six (300 ∷ 1 ∷ 66 ∷ 2 ∷ 0 ∷ 0 ∷ [])
-    ∷ draws wide 595 six (300 ∷ 1 ∷ 66 ∷ 2 ∷ 0 ∷ 1 ∷ [])
-    ∷ draws wide 600 six (301 ∷ 0 ∷ 66 ∷ 1 ∷ 0 ∷ 1 ∷ [])
-    ∷ draws wide 776 six (301 ∷ 0 ∷ 66 ∷ 1 ∷ 1 ∷ 1 ∷ [])
-    ∷ draws wide 936 six (301 ∷ 1 ∷ 65 ∷ 1 ∷ 0 ∷ 1 ∷ [])
-    ∷ draws wide 999 six (301 ∷ 1 ∷ 65 ∷ 1 ∷ 0 ∷ 1 ∷ [])
-    -- the second array has seven stretches of numbers
-    ∷ draws recurring 100 six (300 ∷ 0 ∷ 66 ∷ 2 ∷ 0 ∷ 1 ∷ [])
-    ∷ draws recurring 399 six (300 ∷ 0 ∷ 66 ∷ 2 ∷ 0 ∷ 1 ∷ [])
-    ∷ draws recurring 400 six (300 ∷ 0 ∷ 66 ∷ 2 ∷ 0 ∷ 1 ∷ [])
-    ∷ draws recurring 593 six (300 ∷ 0 ∷ 66 ∷ 2 ∷ 0 ∷ 1 ∷ [])
-    ∷ draws recurring 594 six (300 ∷ 1 ∷ 66 ∷ 2 ∷ 0 ∷ 0 ∷ [])
-    -- what the buffer has beyond the array stays
-    ∷ draws wide 0 (8 ∷ 8 ∷ 8 ∷ 8 ∷ 8 ∷ 8 ∷ 9 ∷ 7 ∷ []) (300 ∷ 0 ∷ 66 ∷ 1 ∷ 1 ∷ 1 ∷ 9 ∷ 7 ∷ [])
-    -- 5, 6, 7 and 8 alone
-    ∷ refuses (wide ++ (0 ∷ [])) 0 six 5
-    ∷ refuses (oneCell 2 0 1 0) 0 six 6
-    ∷ refuses wide 0 five 7
-    ∷ refuses wide 1000 six 8
-    -- two of them: 5 and 7, 5 and 8, 6 and 7, 6 and 8, 7 and 8
-    ∷ refuses (wide ++ (0 ∷ [])) 0 five 5
-    ∷ refuses (wide ++ (0 ∷ [])) 1000 six 5
-    ∷ refuses (oneCell 2 0 1 0) 0 [] 6
-    ∷ refuses (oneCell 2 0 1 0) 2 six 6
-    ∷ refuses wide 1000 five 7
+abbrev pub parts : List Part
+parts =
+    part wide 4 4 0
+    ∷ part wide 4 5 0
+    ∷ part wide 4 3 7
+    ∷ part longer 4 4 5
+    ∷ part heavy 4 4 6
+    -- with 7
+    ∷ part longer 4 0 5
+    ∷ part heavy 4 3 6
     ∷ []

@@ -3,8 +3,8 @@ use mathlib.Core.Path.{_≡_}
 use mathlib.Core.Bool.{Bool, not, _&&_}
 use mathlib.Core.List.{List, [], _∷_, _++_, map}
 use mathlib.Core.Option.{Option, none}
-use Prim.Native.Nat.{ℕ, _*_, _<_, _≤_}
-use lib.ListN.{length, getD}
+use Prim.Native.Nat.{ℕ, _*_}
+use lib.ListN.{getD}
 use lib.Dec.{leb, ltb, eqb}
 use Rattle.base.specs.Lists.{sum, all, every}
 use Rattle.table.specs.Table.{entryPlaces, total}
@@ -13,12 +13,11 @@ use Rattle.table.specs.Check.{cellsWithin}
 use Rattle.refusals.specs.Numbers.{numberOf}
 use Rattle.refusals.specs.declared.Refusal.{Refusal}
 use Rattle.refusals.specs.Due.{Test, refuse, due, refusedOr}
-use Rattle.refusals.specs.declared.Refusal.the-variants.{Layout, Content, Buffer, Number}
+use Rattle.refusals.specs.declared.Refusal.the-variants.{Layout, Content, Buffer}
 use Rattle.opening.specs.declared.Opened.{Opened}
 use Rattle.opening.specs.declared.Opened.the-variants as opened
-use Rattle.form.specs.declared.Sizes.{Sizes}
-use Rattle.form.specs.Plan.{Weighted, Plan, arrayFor}
-use Rattle.form.specs.Form.{rowsOf, columnsOf, denominatorOf, sizesOf, laidOut, decode}
+use Rattle.weighted_arrays.specs.Plan.{Weighted, Plan}
+use Rattle.form.specs.Form.{sizesOf, laidOut, decode}
 
 -- the entries that the arrays of an opened plan are held to, and these are all: every cell, row total and column total and the grand total is the table's
 -- over D, rounded down or up
@@ -68,21 +67,3 @@ partTests b need room = openTests b ++ (refuse Buffer (ltb room need) ∷ [])
 
 unfoldable pub partRefusal : List ℕ → ℕ → ℕ → Option Refusal
 partRefusal b need room = due (partTests b need room)
-
--- the refusals of the call "draw", with a buffer of `room` counts: those of opening; 7, the buffer is shorter than the array; 8, the number is not below D
-abbrev pub drawTests : List ℕ → ℕ → ℕ → List Test
-drawTests b d room =
-    openTests b ++ (refuse Buffer (ltb room (rowsOf b * columnsOf b)) ∷ refuse Number (leb (denominatorOf b) d) ∷ [])
-
-unfoldable pub drawRefusal : List ℕ → ℕ → ℕ → Option Refusal
-drawRefusal b d room = due (drawTests b d room)
-
--- the array that belongs to a draw number of a stored plan
-abbrev pub drawnArray : List ℕ → ℕ → List ℕ
-drawnArray b d = arrayFor (decode b .arrays) d
-
--- what writing the array of a draw number asks: an opened plan with its sizes, a number below D, and room for the array
-pub record Drawing (s : Sizes) (b : List ℕ) (d : ℕ) (counts : List ℕ) : Type 0 where
-  pub is-open : openAnswer b ≡ opened.Plan s
-  pub below : d < s .denominator
-  pub room : s .rows * s .columns ≤ length counts

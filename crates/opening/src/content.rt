@@ -2,18 +2,18 @@
 ghost use mathlib.Core.Path.{_≡_};
 ghost use Rattle.form.specs.Form.{decode};
 ghost use Rattle.opening.specs.Open.{consistent};
-ghost use Rattle.form.specs.Contracts.{Sized};
+ghost use Rattle.reading.specs.Contracts.{Sized};
 ghost use Rattle.opening.specs.Contracts.{weightsRight, arraysRight, ArraysTo, ArrayTo, ArrayTested, ArraysTested, TableOf};
-use crate::lines::bounds;
-use crate::lines::held;
-use crate::weighted::add_weighted;
-use crate::weighted::cells_met;
 use base::wide;
 use form::Sizes;
-use form::read::read_array;
-use form::read::read_table;
-use form::read::weight;
+use is_rounding::bounds;
+use is_rounding::held;
+use reading::read_array;
+use reading::read_table;
+use reading::weight;
 use table::check::cells_within;
+use weighted_arrays::add_weighted;
+use weighted_arrays::cells_met;
 
 // Whether each weight is at least 1 and they add up to the denominator.
 fn weights_right(plan: &[u8], s: Sizes) -> bool

@@ -1,13 +1,10 @@
-// Opening a stored plan, and drawing from it.
+// Opening a stored plan.
 ghost use mathlib.Core.Path.{_≡_};
 ghost use mathlib.Core.List.{map};
-ghost use Rattle.opening.specs.Examples.{cases, opened, drawCases, drawn, said};
+ghost use Rattle.opening.specs.Examples.{cases, opened, parts, partNumber};
 
 mod content;
-pub mod draw;
-mod lines;
 pub mod open;
-pub mod weighted;
 
 use form::Sizes;
 use refusals::Refusal;
@@ -18,8 +15,9 @@ pub enum Opened {
     Refused(Refusal),
 }
 
-// Plans typed out byte by byte open or are refused as the specification says, and so do draws from them: each condition, and each two refusals at once.
+// Plans typed out byte by byte open or are refused as the specification says: each condition, and each two refusals at once; and so are calls that take a
+// plan and write numbers into a buffer.
 pub fn claims()
     ensures opens { λ _. ⌜ map opened cases ≡ map (λ x. x .number) cases ⌝ }
-    ensures draws { λ _. ⌜ map drawn drawCases ≡ map said drawCases ⌝ }
+    ensures parts { λ _. ⌜ map partNumber parts ≡ map (λ x. x .number) parts ⌝ }
 {}

@@ -6,9 +6,11 @@ use Rattle.refusals.specs.Due.{due, after}
 use Rattle.table.specs.Table.{total, entryPlaces}
 use Rattle.table.specs.Whole.{whole, gap, roundsTo}
 use Rattle.cell_order.specs.Order.{nthRow, nthColumn, rank}
-use Rattle.rounding.specs.Order.{inOrder, arrayOf, firstOf}
-use Rattle.rounding.specs.Rounding.{isRounding, firstRounding}
-use Rattle.form.specs.Form.{encode, head, contentsEntry, bytes}
+use Rattle.first_rounding.specs.Order.{inOrder, arrayOf, firstOf}
+use Rattle.is_rounding.specs.Rounding.{isRounding}
+use Rattle.first_rounding.specs.First.{firstRounding}
+use Rattle.form.specs.Form.{encode, head, contentsEntry}
+use Rattle.byte_numbers.specs.Bytes.{bytes}
 use Rattle.planning.specs.Rounds.{limitOf, weightOf, without, roundsFrom, planOf}
 use Rattle.plan.specs.Call.{planBytes, planRefusal, planAnswer}
 use Rattle.plan.specs.Examples.{calls, planned, said}

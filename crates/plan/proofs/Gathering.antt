@@ -11,15 +11,15 @@ use lib.Seq.{getD-append-seam}
 use mir.Val.{Fits}
 use mir.Syntax.{w64}
 use Rattle.table.specs.Table.{maxArrays}
-use Rattle.grid.specs.Contracts.{gridOf}
+use Rattle.grid.specs.Contracts.{gridOf, gridCell, Ready}
 use Rattle.table.specs.Contracts.{IsTable}
 use Rattle.base.specs.Contracts.{Filled}
 use Rattle.base.proofs.Lists.{each-more}
 use Rattle.table.proofs.Sizes.{few-cells}
-use Rattle.rounding.specs.Rounding.{firstRounding}
-use Rattle.rounding.specs.Contracts.{gridCell, Ready}
-use Rattle.rounding.proofs.Calls.{cell-of-grid, rounding-ready}
-use Rattle.form.specs.Plan.{Weighted, arrayAt}
+use Rattle.first_rounding.specs.First.{firstRounding}
+use Rattle.grid.proofs.CellWrites.{cell-of-grid}
+use Rattle.first_rounding.proofs.Small.{rounding-ready}
+use Rattle.weighted_arrays.specs.Plan.{Weighted, arrayAt}
 use Rattle.planning.specs.Contracts.{RoundDone}
 use Rattle.planning.proofs.Progressing.{nextWeighted, nextArray}
 use Rattle.planning.proofs.Reaching.{reached-start, weight-left, few-before, rounds-table, array-shape, weight-is, array-is, weight-most, reached-step}

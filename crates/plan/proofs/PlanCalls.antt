@@ -22,7 +22,7 @@ use Rattle.table.specs.declared.Checked.the-variants as checked
 use Rattle.table.proofs.Checks.{passed-all}
 use Rattle.table.proofs.Sizes.{few-cells}
 use Rattle.table.proofs.Tables.{table-accepted, taken, not-taken, refused-table, refused-buffer, refused-nothing}
-use Rattle.form.specs.Plan.{Plan}
+use Rattle.weighted_arrays.specs.Plan.{Plan}
 use Rattle.form.specs.Form.{planLength, encode}
 use Rattle.form.specs.Contracts.{Bounded}
 use Rattle.form.proofs.Layouts.{plan-most}

@@ -18,9 +18,9 @@ use Rattle.table.specs.Contracts.{IsTable}
 use Rattle.base.proofs.Lists.{and-right, and-both, all-intro, all-elim, all-tabulate}
 use Rattle.table.proofs.Sizes.{place-of, shape-of}
 use Rattle.grid.proofs.GridSums.{cell-at}
-use Rattle.rounding.specs.Rounding.{isRounding}
-use Rattle.rounding.proofs.Roundings.{rounding-length}
-use Rattle.form.specs.Plan.{Weighted, arrayAt}
+use Rattle.is_rounding.specs.Rounding.{twoWays, isRounding}
+use Rattle.first_rounding.proofs.Roundings.{rounding-length}
+use Rattle.weighted_arrays.specs.Plan.{Weighted, arrayAt}
 use Rattle.form.specs.Form.{planLength, decode}
 use Rattle.opening.specs.Open.{held, weighted, consistent, Opens}
 use Rattle.writing.specs.Contracts.{bufferedArray, bufferedPlan}
@@ -37,7 +37,7 @@ use Rattle.plan.specs.Promises.{Promises}
 use Rattle.planning.proofs.GridMembers.{cell-in}
 use Rattle.table.proofs.Totals.{total-cell}
 use Rattle.planning.proofs.Progressing.{progress-end, end-rounds, ended}
-use Rattle.rounding.proofs.Calls.{array-small}
+use Rattle.first_rounding.proofs.Small.{array-small}
 use Rattle.planning.proofs.Reaching.{few-not-whole}
 
 -- a number of a list is at most its sum
@@ -82,7 +82,7 @@ module _ {r c d : ℕ} {g : List ℕ} (t : IsTable r c d g) {k : ℕ} {left : Li
   all-positive : all (λ x. leb 1 (x .weight)) (arraysIn (planRounds r c d g)) ≡ true
   all-positive = rw arrays-are (p .positive)
 
-  all-rounded : all (λ x. isRounding r c d g (x .counts)) (arraysIn (planRounds r c d g)) ≡ true
+  all-rounded : all (λ x. isRounding (twoWays r c) d g (x .counts)) (arraysIn (planRounds r c d g)) ≡ true
   all-rounded = rw arrays-are (p .rounded)
 
   few-arrays : k ≤ 170
@@ -103,8 +103,8 @@ module _ {r c d : ℕ} {g : List ℕ} (t : IsTable r c d g) {k : ℕ} {left : Li
     inside : i < length (arraysIn (planRounds r c d g))
     inside = omega (arith, count-is)
 
-    rounds-at : isRounding r c d g (arrayAt (arraysIn (planRounds r c d g)) i .counts) ≡ true
-    rounds-at = all-elim (λ x. isRounding r c d g (x .counts)) (arraysIn (planRounds r c d g)) _ all-rounded i inside
+    rounds-at : isRounding (twoWays r c) d g (arrayAt (arraysIn (planRounds r c d g)) i .counts) ≡ true
+    rounds-at = all-elim (λ x. isRounding (twoWays r c) d g (x .counts)) (arraysIn (planRounds r c d g)) _ all-rounded i inside
 
     counts-length : length (arrayAt (arraysIn (planRounds r c d g)) i .counts) ≡ r * c
     counts-length = rounding-length (t .shape) d _ rounds-at
@@ -134,7 +134,7 @@ module _ {r c d : ℕ} {g : List ℕ} (t : IsTable r c d g) {k : ℕ} {left : Li
   }
 
   -- the conditions of opening
-  rounding-held : (x : Weighted) → isRounding r c d g (x .counts) ≡ true → held (planOf r c d g) x ≡ true
+  rounding-held : (x : Weighted) → isRounding (twoWays r c) d g (x .counts) ≡ true → held (planOf r c d g) x ≡ true
   unfolding planOf isRounding
   rounding-held x h = and-right (eqb (length (x .counts)) (r * c)) _ h
 

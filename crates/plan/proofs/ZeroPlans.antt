@@ -11,9 +11,10 @@ use Rattle.table.specs.Whole.{roundsTo}
 use Rattle.table.specs.Contracts.{Shape}
 use Rattle.base.proofs.Lists.{and-both, all-of-members}
 use Rattle.table.proofs.Roundings.{rounds}
-use Rattle.rounding.specs.Rounding.{isRounding, IsFirst, firstRounding}
-use Rattle.rounding.proofs.Orders.{before-at}
-use Rattle.rounding.proofs.Roundings.{first-is}
+use Rattle.is_rounding.specs.Rounding.{isRounding}
+use Rattle.first_rounding.specs.First.{IsFirst, firstRounding}
+use Rattle.first_rounding.proofs.Orders.{before-at}
+use Rattle.first_rounding.proofs.Roundings.{first-is}
 use Rattle.planning.specs.Rounds.{limitOf, weightOf, without, Round, roundsFrom, arraysIn, planOf}
 use Rattle.planning.proofs.OneRound.{attains}
 use Rattle.plan.proofs.Planning.{total-of-zeros}

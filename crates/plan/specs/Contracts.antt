@@ -1,11 +1,11 @@
--- What the function that gathers a plan's arrays requires and promises. Only this crate's functions cite it. Assumes nothing.
+-- What the function that gathers a plan's arrays requires and promises. Assumes nothing.
 use mathlib.Core.Path.{_≡_}
 use mathlib.Core.List.{List}
 use Prim.Native.Nat.{ℕ, _+_, _*_, _<_}
 use lib.ListN.{length, getD}
 use Rattle.table.specs.Table.{maxArrays}
 use Rattle.table.specs.Contracts.{IsTable}
-use Rattle.form.specs.Plan.{arrayAt}
+use Rattle.weighted_arrays.specs.Plan.{arrayAt}
 use Rattle.planning.specs.Contracts.{Reached}
 
 -- the counts of the largest plan: 170 arrays of 144 cells

@@ -7,7 +7,7 @@ use lib.ListN.{length}
 use lib.Dec.{leb}
 use Rattle.base.specs.Lists.{sum, all}
 use Rattle.table.specs.Table.{total, maxArrays}
-use Rattle.rounding.specs.Rounding.{isRounding}
+use Rattle.is_rounding.specs.Rounding.{twoWays, isRounding}
 use Rattle.form.specs.Form.{minLength, maxLength, planLength, decode}
 use Rattle.opening.specs.Open.{Opens}
 use Rattle.planning.specs.Rounds.{planOf, AreRounds, notWhole}
@@ -22,7 +22,7 @@ pub record Promises (r c d : ℕ) (g : List ℕ) : Type 0 where
   -- the weighted counts add up to the table: for any places, so for every cell, row, column and the grand total
   pub sums : (s : List ℕ) → sum (map (λ a. a .weight * total (a .counts) s) (planOf r c d g .arrays)) ≡ total g s
   -- every array is a controlled rounding of the table itself
-  pub rounded : all (λ a. isRounding r c d g (a .counts)) (planOf r c d g .arrays) ≡ true
+  pub rounded : all (λ a. isRounding (twoWays r c) d g (a .counts)) (planOf r c d g .arrays) ≡ true
   -- at most one array more than entries that are not whole, so at most 170
   pub few : length (planOf r c d g .arrays) ≤ notWhole r c d g + 1
   pub most : length (planOf r c d g .arrays) ≤ maxArrays

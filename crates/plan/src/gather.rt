@@ -2,7 +2,7 @@
 ghost use Rattle.plan.specs.Contracts.{RoundsReady, AllGathered};
 use base::convert::u64_to_u32;
 use grid::entries;
-use rounding::write::write_cells;
+use grid::write::write_cells;
 use planning::round::one_round;
 use table::Table;
 

@@ -20,10 +20,10 @@ use Rattle.refusals.proofs.Dues.{due-first, due-second, refused-so, accepted-so
 use Rattle.table.specs.Check.{upTo}
 use Rattle.table.proofs.Checks.{too-small, inside, too-large}
 use Rattle.form.specs.declared.Sizes.{Sizes}
-use Rattle.form.specs.Plan.{cellCount, arrayAt}
+use Rattle.weighted_arrays.specs.Plan.{cellCount, arrayAt}
 use Rattle.form.specs.Form.{decode}
-use Rattle.form.specs.Contracts.{Sized, HasArray, HasCounts}
-use Rattle.form.proofs.Sizing.{arrays-are, cells-are, has-array, has-counts}
+use Rattle.reading.specs.Contracts.{Sized, HasArray, HasCounts}
+use Rattle.reading.proofs.Sizing.{arrays-are, cells-are, has-array, has-counts}
 use Rattle.opening.specs.declared.Opened.{Opened}
 use Rattle.opening.specs.declared.Opened.the-variants as opened
 use Rattle.opening.specs.Open.{openTests, openRefusal, openAnswer}

@@ -16,10 +16,10 @@ use Rattle.refusals.specs.declared.Refusal.the-variants.{Buffer}
 use Rattle.refusals.specs.Due.{refuse, due, Answers}
 use Rattle.refusals.proofs.Dues.{due-first, due-second, refused-so, accepted-so}
 use Rattle.form.specs.declared.Sizes.{Sizes}
-use Rattle.form.specs.Plan.{cellCount}
+use Rattle.weighted_arrays.specs.Plan.{cellCount}
 use Rattle.form.specs.Form.{decode}
-use Rattle.form.specs.Contracts.{Sized, HasTable}
-use Rattle.form.proofs.Sizing.{cells-are}
+use Rattle.reading.specs.Contracts.{Sized, HasTable}
+use Rattle.reading.proofs.Sizing.{cells-are}
 use Rattle.form.proofs.Layouts.{laid}
 use Rattle.opening.specs.declared.Opened.{Opened}
 use Rattle.opening.specs.declared.Opened.the-variants as opened

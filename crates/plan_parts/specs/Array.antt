@@ -10,7 +10,7 @@ use Rattle.refusals.specs.declared.Refusal.{Refusal}
 use Rattle.refusals.specs.declared.Refusal.the-variants.{Array, Buffer}
 use Rattle.refusals.specs.Due.{Test, refuse, due}
 use Rattle.table.specs.Check.{upTo}
-use Rattle.form.specs.Plan.{arrayAt, cellCount}
+use Rattle.weighted_arrays.specs.Plan.{arrayAt, cellCount}
 use Rattle.form.specs.Form.{decode}
 use Rattle.opening.specs.Open.{openTests}
 

@@ -1,13 +1,14 @@
 -- Literal cases of the calls that tell a plan's sizes, cells and arrays; the plan's bytes are typed out. Assumes nothing.
-use mathlib.Core.List.{List, [], _∷_, _++_}
+use mathlib.Core.List.{List, [], _∷_}
 use Prim.Native.Nat.{ℕ}
-use lib.ListN.{length, set}
+use lib.ListN.{length}
 use Rattle.base.specs.Buffers.{written}
 use Rattle.refusals.specs.Answer.{answerNumber}
 use Rattle.refusals.specs.Due.{answerOf, after}
-use Rattle.form.specs.Plan.{cellCount}
+use Rattle.weighted_arrays.specs.Plan.{cellCount}
 use Rattle.form.specs.Form.{decode}
 use Rattle.form.specs.Examples.{wide}
+use Rattle.opening.specs.Examples.{longer, heavy}
 use Rattle.plan_parts.specs.Sizes.{sizeNumbers}
 use Rattle.opening.specs.Open.{partRefusal}
 use Rattle.plan_parts.specs.Array.{Buffers, buffers, arrayRefusal, arrayInto}
@@ -27,13 +28,6 @@ refuses b buffer n = record { plan = b; buffer = buffer; number = n; result = bu
 
 abbrev pub said : Case → List ℕ
 said x = x .number ∷ x .result
-
--- the plan of two rows, three columns, seven arrays and D 1000 with a byte more: 5; and with a weight one too large: 6
-abbrev pub longer : List ℕ
-longer = wide ++ (0 ∷ [])
-
-abbrev pub heavy : List ℕ
-heavy = set wide 16 101
 
 abbrev pub toldSizes : Case → List ℕ
 toldSizes x =

@@ -2,10 +2,10 @@
 ghost use lib.ListN.{length};
 ghost use Rattle.refusals.specs.Due.{Answers};
 ghost use Rattle.plan_parts.specs.Array.{buffers, arrayRefusal, arrayInto};
-use form::read::read_array;
-use form::read::weight;
 use opening::Opened;
 use opening::open::open;
+use reading::read_array;
+use reading::weight;
 use refusals::Answer;
 use refusals::Refusal;
 

@@ -6,11 +6,11 @@ use Prim.Native.Nat.{ℕ, zero, suc, _+_, _*_, _<_, _≤_}
 use native.Mathlib.Omega.{arith}
 use lib.ListN.{length, getD, length-append}
 use Rattle.base.specs.Lists.{joinTo}
-use Rattle.form.specs.Plan.{arrayAt}
+use Rattle.weighted_arrays.specs.Plan.{arrayAt}
 use Rattle.form.specs.Form.{laidOut, decode}
 use Rattle.form.specs.Contracts.{Laid}
 use Rattle.form.proofs.Layouts.{laid}
-use Rattle.form.proofs.Readings.{decode-arrays, decode-few, counts-length, weight-small, counts-small}
+use Rattle.reading.proofs.Readings.{decode-arrays, decode-few, counts-length, weight-small, counts-small}
 use Rattle.printing.specs.Lines.{decimal, spaced, line, refused}
 use Rattle.printing.specs.Contracts.{Room}
 use Rattle.printing.proofs.Decimals.{decimal-length, decimal-most}

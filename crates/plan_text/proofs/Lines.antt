@@ -15,12 +15,13 @@ use Rattle.base.specs.Buffers.{written}
 use Rattle.base.specs.Contracts.{Filled}
 use Rattle.base.proofs.Buffers.{written-front, written-length}
 use Rattle.form.specs.declared.Sizes.{Sizes}
-use Rattle.form.specs.Plan.{Weighted, Plan, arrayAt}
+use Rattle.weighted_arrays.specs.Plan.{Weighted, Plan, arrayAt}
 use Rattle.form.specs.Form.{rowsOf, columnsOf, denominatorOf, arraysOf, sizesOf, laidOut, decode}
-use Rattle.form.specs.Contracts.{Laid, HasArray, HasCounts, Sized}
+use Rattle.form.specs.Contracts.{Laid}
+use Rattle.reading.specs.Contracts.{HasArray, HasCounts, Sized}
 use Rattle.form.proofs.Layouts.{laid}
-use Rattle.form.proofs.Readings.{decode-arrays, counts-length, contents-room}
-use Rattle.form.proofs.Sizing.{cells-are, sized-few, sized-fits}
+use Rattle.reading.proofs.Readings.{decode-arrays, counts-length, contents-room}
+use Rattle.reading.proofs.Sizing.{cells-are, sized-few, sized-fits}
 use Rattle.printing.specs.Lines.{line}
 use Rattle.printing.specs.Contracts.{Room}
 use Rattle.printing.proofs.Writes.{Writing, writing-none}

@@ -21,10 +21,11 @@ use Rattle.plan.proofs.Planning.{promised}
 use Rattle.table.proofs.Checks.{passed-all}
 use Rattle.printing.specs.Lines.{refused}
 use Rattle.printing.specs.Write.{Wrote}
-use Rattle.plan_text.specs.declared.Parsed.{Parsed}
-use Rattle.plan_text.specs.Contracts.{parsedOf}
-use Rattle.plan_text.specs.Text.{parse, listing, refusedText, tableOutput, printed, output}
-use Rattle.plan_text.proofs.Answers.{accepted-count, padded-at, padded-part}
+use Rattle.parsing.specs.declared.Parsed.{Parsed}
+use Rattle.parsing.specs.Contracts.{parsedOf}
+use Rattle.parsing.specs.Text.{parse}
+use Rattle.plan_text.specs.Text.{listing, refusedText, tableOutput, printed, output}
+use Rattle.parsing.proofs.Answers.{accepted-count, padded-at, padded-part}
 
 -- the first n bytes of a buffer are laid out, and list what is printed
 pub record Listed (n : ℕ) (new s : List ℕ) : Type 0 where

@@ -1,30 +1,14 @@
--- The answer to a text, as the code holds it, and the lines of a stored plan. Assumes nothing.
-use mathlib.Core.Bool.{Bool, true, false}
-use mathlib.Core.List.{List, [], _++_}
-use mathlib.Core.Option.{Option, some, none}
+-- The lines of a stored plan, and room for them. Assumes nothing.
+use mathlib.Core.Bool.{true}
+use mathlib.Core.List.{List, []}
 use Prim.Native.Nat.{ℕ, _-_, _+_, _≤_}
-use lib.ListN.{length, replicate, getD, take}
-use Rattle.plan_text.specs.declared.Parsed.{Parsed}
+use lib.ListN.{length, getD, take}
 use mathlib.Core.Path.{_≡_}
-use Rattle.form.specs.Plan.{Plan}
+use Rattle.weighted_arrays.specs.Plan.{Plan}
 use Rattle.form.specs.Form.{laidOut, decode}
 use Rattle.printing.specs.Lines.{line}
 use Rattle.printing.specs.Contracts.{Room}
 use Rattle.plan_text.specs.Text.{lineNumbers, listing, maxListing}
-
--- some numbers, with zeros after them
-abbrev pub padded : List ℕ → List ℕ
-padded n = n ++ replicate (2048 - length n) 0
-
--- the numbers, or for `refused text` none
-abbrev pub parsedOf : Option (List ℕ) → Parsed
-parsedOf none = record { accepted = false; count = 0; numbers = padded [] }
-parsedOf (some n) = record { accepted = true; count = length n; numbers = padded n }
-
--- 1 for true, 0 for false
-abbrev pub oneIf : Bool → ℕ
-oneIf true = 1
-oneIf false = 0
 
 -- the numbers of line k of a plan's listing
 abbrev pub planLine : Plan → ℕ → List ℕ

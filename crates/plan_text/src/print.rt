@@ -11,10 +11,10 @@ ghost use Rattle.plan_text.specs.Text.{listing, refusedText};
 ghost use Rattle.plan_text.specs.Contracts.{planLine, LineOf, LineRead, Printable, Listable, ListableAt};
 use base::convert::u16_to_u32;
 use form::layout::sizes;
-use form::read::read_array;
-use form::read::weight;
 use printing::line::print_numbers;
 use printing::write::put_bytes;
+use reading::read_array;
+use reading::weight;
 
 // The numbers of the first line: the sizes.
 fn head_numbers(plan: &[u8], numbers: &mut [u32; 145]) -> usize

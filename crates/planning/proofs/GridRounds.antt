@@ -19,10 +19,10 @@ use Rattle.table.specs.Contracts.{Shape}
 use Rattle.table.proofs.Totals.{total-none}
 use Rattle.grid.proofs.GridPlaces.{grid-at, grid-entry, length-grid}
 use Rattle.grid.proofs.GridTests.{grid-entries, grid-each}
-use Rattle.rounding.specs.Rounding.{IsFirst, firstRounding}
-use Rattle.rounding.specs.Contracts.{IsGrid, RoundedGrid}
-use Rattle.rounding.proofs.Roundings.{rounding-grid}
-use Rattle.rounding.proofs.Existence.{first-exists}
+use Rattle.first_rounding.specs.First.{IsFirst, firstRounding}
+use Rattle.first_rounding.specs.Contracts.{IsGrid, RoundedGrid}
+use Rattle.first_rounding.proofs.Roundings.{rounding-grid}
+use Rattle.first_rounding.proofs.Existence.{first-exists}
 use Rattle.planning.specs.Rounds.{limitOf, weightOf, without}
 use Rattle.planning.specs.Contracts.{Rounded, limitAt, Smallest, Bears, Lost, NextArray, RoundDone}
 use Rattle.planning.proofs.OneRound.{attains, weight-most, weight-high, rest, rest-total}

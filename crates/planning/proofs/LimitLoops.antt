@@ -14,7 +14,7 @@ use mir.Syntax.{w64}
 use Rattle.base.proofs.Lists.{each-more}
 use Rattle.base.proofs.Listing.{listed-at}
 use Rattle.table.proofs.Roundings.{gap-le, rounds-low, rounds-high}
-use Rattle.rounding.specs.Contracts.{roundedDown}
+use Rattle.first_rounding.specs.Contracts.{roundedDown}
 use Rattle.planning.specs.Rounds.{limitOf}
 use Rattle.planning.specs.Contracts.{LimitReady, Rounded, Smallest, Bears, Lost}
 

@@ -14,16 +14,16 @@ use Rattle.table.specs.Whole.{gap, roundsTo}
 use Rattle.table.specs.Contracts.{Shape}
 use Rattle.base.proofs.Lists.{and-right, all-at-member}
 use Rattle.table.proofs.Totals.{total-cell}
-use Rattle.rounding.specs.Rounding.{isRounding}
+use Rattle.is_rounding.specs.Rounding.{twoWays, isRounding}
 use Rattle.table.proofs.Sizes.{shape-of}
-use Rattle.rounding.proofs.Roundings.{rounding-length}
+use Rattle.first_rounding.proofs.Roundings.{rounding-length}
 use Rattle.planning.specs.Rounds.{limitOf, weightOf, without, notWhole}
 use Rattle.planning.proofs.Entries.{limit-low, limit-high, Left, left, gap-falls, gap-drops, count-low, count-high, next-low, next-high}
 use Rattle.planning.proofs.Leasts.{least-le, Attained, attained-in}
 use Rattle.planning.proofs.GridMembers.{cell-in, grand-in}
 use Rattle.planning.proofs.Losses.{without-length, without-total}
 
-module _ {r c : ℕ} {g : List ℕ} (s : Shape r c g) (w : ℕ) (wp : 0 < w) (n : List ℕ) (h : isRounding r c w g n ≡ true) where
+module _ {r c : ℕ} {g : List ℕ} (s : Shape r c g) (w : ℕ) (wp : 0 < w) (n : List ℕ) (h : isRounding (twoWays r c) w g n ≡ true) where
   pub entry-rounds : {x : List ℕ} → Member x (entryPlaces r c) → roundsTo w (total g x) (total n x) ≡ true
   unfolding isRounding
   entry-rounds = all-at-member (λ x. roundsTo w (total g x) (total n x)) (entryPlaces r c) (and-right (eqb (length n) (r * c)) _ h)

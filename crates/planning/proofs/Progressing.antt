@@ -18,10 +18,11 @@ use Rattle.table.specs.Whole.{down, up, gap, roundsTo}
 use Rattle.table.specs.Contracts.{IsTable}
 use Rattle.base.proofs.Lists.{all-append, and-both, all-of-members}
 use Rattle.table.proofs.Roundings.{rest-le, rounds}
-use Rattle.rounding.specs.Rounding.{isRounding, IsFirst, firstRounding}
-use Rattle.rounding.proofs.Roundings.{rounding-length}
-use Rattle.rounding.proofs.Existence.{first-exists}
-use Rattle.form.specs.Plan.{Weighted}
+use Rattle.is_rounding.specs.Rounding.{twoWays, isRounding}
+use Rattle.first_rounding.specs.First.{IsFirst, firstRounding}
+use Rattle.first_rounding.proofs.Roundings.{rounding-length}
+use Rattle.first_rounding.proofs.Existence.{first-exists}
+use Rattle.weighted_arrays.specs.Plan.{Weighted}
 use Rattle.planning.specs.Rounds.{weightOf, without, Round, roundOn, roundsFrom, planRounds, arraysIn, IsRound, AreRounds}
 use Rattle.planning.specs.Contracts.{Progress}
 use Rattle.planning.proofs.OneRound.{weight-low, weight-high, rest, rest-shape, rest-total, rest-low, rest-high, array-low, array-high, fewer}
@@ -93,7 +94,7 @@ module _ {r c d : ℕ} {g : List ℕ} {w k : ℕ} {left : List ℕ} {done : List
   unfolded (suc m) zero a b l = absurd (omega arith)
   unfolded (suc m) (suc v) a b l = (m, refl, refl)
 
-  pub array-rounds : isRounding r c d g nextArray ≡ true
+  pub array-rounds : isRounding (twoWays r c) d g nextArray ≡ true
   unfolding isRounding nextArray
   array-rounds = and-both eq-length (all-of-members (λ s. roundsTo d (total g s) (total nextArray s)) (entryPlaces r c)
       (λ s m. rounds d (total g s) (total nextArray s)

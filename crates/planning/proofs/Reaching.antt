@@ -17,9 +17,10 @@ use Rattle.table.proofs.Sizes.{shape-of}
 use Rattle.grid.specs.Contracts.{gridPlaces, gridAt, gridOf}
 use Rattle.grid.proofs.GridPlaces.{grid-entry, length-grid}
 use Rattle.grid.proofs.GridBounds.{grid-small}
-use Rattle.rounding.specs.Rounding.{isRounding, firstRounding}
-use Rattle.rounding.specs.Contracts.{IsGrid}
-use Rattle.rounding.proofs.Roundings.{rounding-length}
+use Rattle.is_rounding.specs.Rounding.{twoWays, isRounding}
+use Rattle.first_rounding.specs.First.{firstRounding}
+use Rattle.first_rounding.specs.Contracts.{IsGrid}
+use Rattle.first_rounding.proofs.Roundings.{rounding-length}
 use Rattle.planning.specs.Rounds.{without, notWhole}
 use Rattle.planning.specs.Contracts.{Progress, RoundDone, Reached}
 use Rattle.planning.proofs.Progressing.{progress-start, progress-step, array-rounds, nextWeight, nextWeighted, nextArray, low-weight, high-weight}
@@ -54,7 +55,7 @@ module _ {r c d : ℕ} {g : List ℕ} {w k : ℕ} {e : List ℕ} (o : Reached r 
     pub few-before : k < 170
     few-before = omega (arith, o .progress .few wp, few-not-whole (o .table .shape .rows) (o .table .shape .columns) d g)
 
-    pub rounds-table : isRounding r c d g (firstRounding r c w (o .rest)) ≡ true
+    pub rounds-table : isRounding (twoWays r c) d g (firstRounding r c w (o .rest)) ≡ true
     unfolding nextArray
     rounds-table = array-rounds (o .progress) wp
 

@@ -1,4 +1,4 @@
--- What the functions of a round require and promise, on grids, and where planning stands after some rounds. Assumes nothing.
+-- Where planning stands after some rounds, and what the functions of a round require and promise, on grids. Assumes nothing.
 use mathlib.Core.Path.{_≡_}
 use mathlib.Core.Bool.{true}
 use mathlib.Core.List.{List, _++_, map, List·Memᴰ as Member}
@@ -9,11 +9,36 @@ use Rattle.grid.specs.Contracts.{gridOf}
 use Rattle.table.specs.Table.{maxDenominator, maxEntry, total, entryPlaces}
 use Rattle.table.specs.Whole.{down, roundsTo, up}
 use Rattle.table.specs.Contracts.{Shape, IsTable}
-use Rattle.rounding.specs.Rounding.{firstRounding, isRounding}
-use Rattle.rounding.specs.Contracts.{roundedDown, IsGrid}
-use Rattle.form.specs.Plan.{Weighted}
+use Rattle.first_rounding.specs.First.{firstRounding}
+use Rattle.is_rounding.specs.Rounding.{twoWays, isRounding}
+use Rattle.first_rounding.specs.Contracts.{roundedDown, IsGrid}
+use Rattle.weighted_arrays.specs.Plan.{Weighted}
 use Rattle.planning.specs.Rounds.{limitOf, weightOf, without, Round, roundsFrom, planRounds, arraysIn, AreRounds, notWhole}
 use lib.Dec.{leb}
+
+-- `done` are the arrays of the first k rounds, `left` is the remaining table over the remaining weight w
+pub record Progress (r c d : ℕ) (g : List ℕ) (w k : ℕ) (left : List ℕ) (done : List Weighted) : Type 0 where
+  pub shape : Shape r c left
+  pub count : length done ≡ k
+  -- the rounds so far, and those to come
+  pub past : List Round
+  pub arrays : arraysIn past ≡ done
+  pub fuel : ℕ
+  pub enough : w ≤ fuel
+  pub rounds : planRounds r c d g ≡ past ++ roundsFrom fuel r c w left
+  -- those so far, and then any that give out all that is left
+  pub are-rounds : (l : List Weighted) → AreRounds r c w left l → AreRounds r c d g (done ++ l)
+  -- weights, arrays, and what they add up to, for any places
+  pub weights : w + sum (map (λ a. a .weight) done) ≡ d
+  pub positive : all (λ a. leb 1 (a .weight)) done ≡ true
+  pub rounded : all (λ a. isRounding (twoWays r c) d g (a .counts)) done ≡ true
+  pub sums : (s : List ℕ) → total left s + sum (map (λ a. a .weight * total (a .counts) s) done) ≡ total g s
+  -- Ernst's bounds (3.4)
+  pub low : (s : List ℕ) → Member s (entryPlaces r c) → down d (total g s) * w ≤ total left s
+  pub high : (s : List ℕ) → Member s (entryPlaces r c) → total left s ≤ up d (total g s) * w
+  -- at most one array more than entries that are not whole
+  pub few : 0 < w → k + notWhole r c w left ≤ notWhole r c d g
+  pub most : k ≤ notWhole r c d g + 1
 
 -- an entry e, over w rounded down q, and a count n that rounds it, with numbers that are small
 pub record LimitReady (w e q n : ℕ) : Type 0 where
@@ -92,27 +117,3 @@ pub record Reached (r c d : ℕ) (g : List ℕ) (w k : ℕ) (e : List ℕ) : Typ
   pub done : List Weighted
   pub progress : Progress r c d g w k rest done
   pub grid : e ≡ gridOf r c rest
-
--- `done` are the arrays of the first k rounds, `left` is the remaining table over the remaining weight w
-pub record Progress (r c d : ℕ) (g : List ℕ) (w k : ℕ) (left : List ℕ) (done : List Weighted) : Type 0 where
-  pub shape : Shape r c left
-  pub count : length done ≡ k
-  -- the rounds so far, and those to come
-  pub past : List Round
-  pub arrays : arraysIn past ≡ done
-  pub fuel : ℕ
-  pub enough : w ≤ fuel
-  pub rounds : planRounds r c d g ≡ past ++ roundsFrom fuel r c w left
-  -- those so far, and then any that give out all that is left
-  pub are-rounds : (l : List Weighted) → AreRounds r c w left l → AreRounds r c d g (done ++ l)
-  -- weights, arrays, and what they add up to, for any places
-  pub weights : w + sum (map (λ a. a .weight) done) ≡ d
-  pub positive : all (λ a. leb 1 (a .weight)) done ≡ true
-  pub rounded : all (λ a. isRounding r c d g (a .counts)) done ≡ true
-  pub sums : (s : List ℕ) → total left s + sum (map (λ a. a .weight * total (a .counts) s) done) ≡ total g s
-  -- Ernst's bounds (3.4)
-  pub low : (s : List ℕ) → Member s (entryPlaces r c) → down d (total g s) * w ≤ total left s
-  pub high : (s : List ℕ) → Member s (entryPlaces r c) → total left s ≤ up d (total g s) * w
-  -- at most one array more than entries that are not whole
-  pub few : 0 < w → k + notWhole r c w left ≤ notWhole r c d g
-  pub most : k ≤ notWhole r c d g + 1

@@ -7,8 +7,8 @@ use lib.Dec.{eqb}
 use Rattle.base.specs.Lists.{sum, least}
 use Rattle.table.specs.Table.{total, entryPlaces}
 use Rattle.table.specs.Whole.{down, gap}
-use Rattle.rounding.specs.Rounding.{IsFirst, firstRounding}
-use Rattle.form.specs.Plan.{Weighted, Plan}
+use Rattle.first_rounding.specs.First.{IsFirst, firstRounding}
+use Rattle.weighted_arrays.specs.Plan.{Weighted, Plan}
 
 -- the limit of an entry e over w with the count n: (n + 1)·w − e where n is e over w rounded down, which is w where e is whole, and else e − (n − 1)·w
 unfoldable pub limitOf : ℕ → ℕ → ℕ → ℕ

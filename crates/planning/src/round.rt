@@ -3,7 +3,7 @@ ghost use Rattle.planning.specs.Contracts.{NextReady, NextArray, RoundRe
 use crate::limits::limits;
 use crate::limits::lose;
 use crate::limits::smallest;
-use rounding::first::round_grid;
+use first_rounding::round_grid;
 
 // The next array n of a remaining table with entries e over w, the limits l of its entries, and its weight.
 pub fn next_array(e: &[u64; 169], w: u64, n: &mut [u64; 169], l: &mut [u64; 169]) -> u64

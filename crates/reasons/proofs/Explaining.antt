@@ -20,8 +20,9 @@ use Rattle.table.specs.Contracts.{Shape, IsTable}
 use Rattle.table.specs.Check.{tableTests, tableRefusal}
 use Rattle.table.proofs.Checks.{passed-all}
 use Rattle.table.proofs.Roundings.{rounds-low, rounds-high, gap-le}
-use Rattle.rounding.specs.Rounding.{isRounding, firstRounding}
-use Rattle.rounding.proofs.Existence.{first-exists}
+use Rattle.is_rounding.specs.Rounding.{twoWays, isRounding}
+use Rattle.first_rounding.specs.First.{firstRounding}
+use Rattle.first_rounding.proofs.Existence.{first-exists}
 use Rattle.planning.specs.Rounds.{limitOf, weightOf, Round, roundOn, planRounds, planOf}
 use Rattle.planning.proofs.Entries.{limit-high}
 use Rattle.planning.proofs.GridMembers.{cell-in}
@@ -30,7 +31,7 @@ use Rattle.planning.proofs.Progressing.{Begins, begins, round-is, more-rounds, 
 use Rattle.reasons.specs.declared.Entry.{Entry}
 use Rattle.reasons.specs.declared.Entry.the-variants.{Cell, GrandTotal}
 use Rattle.reasons.specs.declared.Reply.the-variants.{Down, Up, AllWhole}
-use Rattle.reasons.specs.Reason.{namedEntries, placesOf, expectedIn, countIn, sets, setBy, allWhole, reasonOf}
+use Rattle.reasons.specs.Reason.{namedEntries, placesOf, expectedIn, countIn, sets, setBy, reasonOf}
 use Rattle.reasons.specs.Call.{roundAt, reasonRefusal}
 use Rattle.reasons.specs.Explained.{Explained}
 use Rattle.reasons.proofs.Naming.{names-places}
@@ -43,7 +44,7 @@ module _ {r c : ℕ} {g : List ℕ} (s : Shape r c g) (w : ℕ) (wp : 0 < w) whe
   abbrev x : Round
   x = roundOn r c w g
 
-  rounding : isRounding r c w g (firstRounding r c w g) ≡ true
+  rounding : isRounding (twoWays r c) w g (firstRounding r c w g) ≡ true
   rounding = first-exists s wp .rounding
 
   pub first-entry : FirstOf (sets r c x) (namedEntries r c) (setBy r c x)

@@ -1,10 +1,8 @@
-pub mod Examples
 pub mod Naming
 pub mod Wholes
 pub mod Directions
 pub mod Telling
 pub mod Setting
-pub mod Searching
 pub mod Finding
 pub mod Explaining
-pub mod Replying
+pub mod Asking

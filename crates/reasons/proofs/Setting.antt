@@ -14,14 +14,15 @@ use Rattle.table.specs.Table.{total}
 use Rattle.table.specs.Contracts.{Dividable, Shape}
 use Rattle.grid.specs.Contracts.{gridAt, gridOf, gridOrder}
 use Rattle.grid.proofs.GridPlaces.{grid-entry}
-use Rattle.rounding.specs.Rounding.{firstRounding}
+use Rattle.first_rounding.specs.First.{firstRounding}
 use Rattle.planning.specs.Rounds.{limitOf, roundOn}
 use Rattle.planning.specs.Contracts.{limitAt, NextReady, NextArray}
 use Rattle.reasons.specs.declared.Entry.{Entry}
 use Rattle.reasons.specs.declared.Entry.the-variants.{GrandTotal}
 use Rattle.reasons.specs.declared.Reply.{Reply}
 use Rattle.reasons.specs.Reason.{expectedIn, countIn, sets, setBy, reasonOf}
-use Rattle.reasons.specs.Contracts.{holds, Sizes, entryAt, directed, Remains}
+use Rattle.limit_search.specs.Contracts.{holds, Sizes}
+use Rattle.reasons.specs.Contracts.{entryAt, directed, Remains}
 use Rattle.reasons.proofs.Naming.{Stands, stands-grand, order-stands, order-names}
 use Rattle.reasons.proofs.Wholes.{all-whole-is}
 

@@ -12,8 +12,9 @@ use Rattle.base.proofs.Lists.{all-at-member, all-of-members}
 use Rattle.table.specs.Table.{total, entryPlaces}
 use Rattle.table.specs.Whole.{whole, roundsTo}
 use Rattle.table.specs.Contracts.{Shape}
-use Rattle.rounding.specs.Rounding.{isRounding, firstRounding}
-use Rattle.rounding.proofs.Existence.{first-exists}
+use Rattle.is_rounding.specs.Rounding.{twoWays, isRounding}
+use Rattle.first_rounding.specs.First.{firstRounding}
+use Rattle.first_rounding.proofs.Existence.{first-exists}
 use Rattle.planning.specs.Rounds.{limitOf, weightOf, roundOn}
 use Rattle.planning.proofs.Entries.{Side, below, above, side, limit-high}
 use Rattle.planning.proofs.OneRound.{entry-rounds, attains, weight-most}
@@ -38,7 +39,7 @@ module _ (w : ℕ) (wp : 0 < w) (e n : ℕ) (h : roundsTo w e n ≡ true) where
       go (above q p l) = absurd (omega (arith, mod-lt e wp))
 
 module _ {r c : ℕ} {g : List ℕ} (s : Shape r c g) (w : ℕ) (wp : 0 < w) where
-  rounding : isRounding r c w g (firstRounding r c w g) ≡ true
+  rounding : isRounding (twoWays r c) w g (firstRounding r c w g) ≡ true
   rounding = first-exists s wp .rounding
 
   abbrev y : ℕ

@@ -1,19 +1,16 @@
--- The calls that tell which entry set the weight (specification, "Which entry set the weight" and "Refusals": 1, 2, 3, 4, 14, 7). Assumes nothing.
+-- Asking which entry set the weight of an array (specification, "Which entry set the weight" and "Refusals": 1, 2, 3, 4, 14). Assumes nothing.
 use mathlib.Core.Bool.{not}
 use mathlib.Core.List.{List, [], _∷_, _++_}
 use mathlib.Core.Option.{Option}
 use Prim.Native.Nat.{ℕ, _-_}
 use lib.ListN.{length, getD}
-use lib.Dec.{ltb}
 use Rattle.refusals.specs.declared.Refusal.{Refusal}
-use Rattle.refusals.specs.declared.Refusal.the-variants.{Array, Buffer}
+use Rattle.refusals.specs.declared.Refusal.the-variants.{Array}
 use Rattle.refusals.specs.Due.{Test, refuse, due, refusedOr}
 use Rattle.table.specs.Check.{upTo, tableTests}
 use Rattle.planning.specs.Rounds.{Round, planRounds, planOf}
-use Rattle.reasons.specs.declared.Entry.{Entry}
-use Rattle.reasons.specs.declared.Entry.the-variants.{Cell, RowTotal, ColumnTotal, GrandTotal}
 use Rattle.reasons.specs.declared.Reply.{Reply}
-use Rattle.reasons.specs.declared.Reply.the-variants.{Down, Up, AllWhole, Refused}
+use Rattle.reasons.specs.declared.Reply.the-variants.{Refused}
 use Rattle.reasons.specs.Reason.{reasonOf}
 
 -- round k of a table's plan, counted from 1, and where there is none an empty one
@@ -30,31 +27,3 @@ reasonRefusal r c d g k = due (reasonTests r c d g k)
 -- the answer: the reason of round k, or what is due
 unfoldable pub reasonAnswer : ℕ → ℕ → ℕ → List ℕ → ℕ → Reply
 reasonAnswer r c d g k = refusedOr Refused (reasonOf r c (roundAt r c d g k)) (reasonRefusal r c d g k)
-
--- the numbers of an entry: its kind (1 cell, 2 row total, 3 column total, 4 grand total), its row and its column, 0 where the kind has none
-abbrev pub entryNumbers : Entry → List ℕ
-entryNumbers (Cell i j) = 1 ∷ i ∷ j ∷ []
-entryNumbers (RowTotal i) = 2 ∷ i ∷ 0 ∷ []
-entryNumbers (ColumnTotal j) = 3 ∷ 0 ∷ j ∷ []
-entryNumbers GrandTotal = 4 ∷ 0 ∷ 0 ∷ []
-
--- the numbers of a reason: those of its entry, and the direction (0 all whole, 1 down, 2 up); none of a refusal
-abbrev pub reasonNumbers : Reply → List ℕ
-reasonNumbers (AllWhole e) = entryNumbers e ++ (0 ∷ [])
-reasonNumbers (Down e) = entryNumbers e ++ (1 ∷ [])
-reasonNumbers (Up e) = entryNumbers e ++ (2 ∷ [])
-reasonNumbers (Refused x) = []
-
--- 7: a buffer has no room for four numbers
-abbrev pub roomTests : ℕ → List Test
-roomTests room = refuse Buffer (ltb room 4) ∷ []
-
-unfoldable pub roomRefusal : ℕ → Option Refusal
-roomRefusal room = due (roomTests room)
-
--- the refusals of writing the numbers into a buffer of `room`: those of asking, and then 7
-abbrev pub replyTests : ℕ → ℕ → ℕ → List ℕ → ℕ → ℕ → List Test
-replyTests r c d g k room = reasonTests r c d g k ++ roomTests room
-
-unfoldable pub replyRefusal : ℕ → ℕ → ℕ → List ℕ → ℕ → ℕ → Option Refusal
-replyRefusal r c d g k room = due (replyTests r c d g k room)

@@ -5,7 +5,7 @@ use Prim.Native.Nat.{ℕ, _+_, _-_}
 use lib.ListN.{length}
 use Rattle.base.specs.Search.{FirstOf}
 use Rattle.table.specs.Whole.{down}
-use Rattle.form.specs.Plan.{arrayAt}
+use Rattle.weighted_arrays.specs.Plan.{arrayAt}
 use Rattle.planning.specs.Rounds.{planOf}
 use Rattle.reasons.specs.declared.Entry.{Entry}
 use Rattle.reasons.specs.declared.Entry.the-variants.{Cell}

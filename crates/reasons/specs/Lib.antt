@@ -2,4 +2,3 @@ pub mod Reason
 pub mod Call
 pub mod Explained
 pub mod Contracts
-pub mod Examples

@@ -1,23 +1,41 @@
 // The reason of an array's weight: the rounds up to its own, each in place of the one before.
 ghost use mathlib.Core.Path.{_≡_};
 ghost use mathlib.Core.List.{List};
-ghost use Prim.Native.Nat.{ℕ};
+ghost use Prim.Native.Nat.{ℕ, _<_};
 ghost use Rattle.table.specs.Contracts.{Dividable, Shape, IsTable};
 ghost use Rattle.grid.specs.Contracts.{gridOf};
 ghost use Rattle.planning.specs.Rounds.{roundOn};
 ghost use Rattle.reasons.specs.Reason.{reasonOf};
 ghost use Rattle.reasons.specs.Call.{reasonAnswer};
-ghost use Rattle.reasons.specs.Contracts.{directed, Remains};
+ghost use Rattle.reasons.specs.Contracts.{entryAt, directed, Remains};
 use crate::Entry;
 use crate::Reply;
-use crate::search::entry_at;
-use crate::search::first_place;
 use grid::entries;
-use refusals::Refusal;
+use limit_search::first_place;
 use planning::round::next_array;
 use planning::round::one_round;
+use refusals::Refusal;
 use table::Table;
 use table::whole::divide;
+
+// The entry that stands at a place.
+pub fn entry_at(place: usize) -> Entry
+    requires { ⌜ place < 169 ⌝ }
+    ensures { λ e. ⌜ e ≡ entryAt place ⌝ }
+{
+    let p = place / 13;
+    let q = place % 13;
+    if p < 12 {
+        if q < 12 {
+            return Entry::Cell(p as u32 + 1, q as u32 + 1);
+        }
+        return Entry::RowTotal(p as u32 + 1);
+    }
+    if q < 12 {
+        return Entry::ColumnTotal(q as u32 + 1);
+    }
+    Entry::GrandTotal
+}
 
 // How an entry over w with its count was rounded, where the weight is x. All are whole just if the weight is all that is left.
 fn direction(w: u64, x: u64, entry: u64, count: u64, named: Entry) -> Reply

@@ -19,17 +19,19 @@ use Rattle.base.proofs.SumLoops.{Summed, sum-more, summed-more, summed-all}
 use Rattle.base.proofs.Filling.{filled-none, front-more, front-all}
 use Rattle.base.proofs.Buffers.{written-at}
 use Rattle.form.specs.declared.Sizes.{Sizes}
-use Rattle.form.specs.Plan.{Weighted, arrayAt, cellCount, arrayFor}
+use Rattle.weighted_arrays.specs.Plan.{Weighted, arrayAt, cellCount, arrayFor}
 use Rattle.form.specs.Form.{decode}
-use Rattle.form.specs.Contracts.{HasArray, Sized}
-use Rattle.form.proofs.Sizing.{arrays-are, denominator-is, sized-arrays, sized-denominator}
-use Rattle.opening.specs.Contracts.{weightsBefore, weightAt, factored}
-use Rattle.opening.proofs.Belonging.{array-for}
+use Rattle.reading.specs.Contracts.{HasArray, Sized}
+use Rattle.reading.proofs.Sizing.{arrays-are, denominator-is, sized-arrays, sized-denominator}
+use Rattle.weighted_arrays.specs.Contracts.{weightsBefore, weightAt, factored}
+use Rattle.weighted_arrays.proofs.Belonging.{array-for}
 use Rattle.opening.proofs.Opening.{is-open, opened-sized}
 use Rattle.opening.proofs.Opens.{weights-add-up}
-use Rattle.records.specs.Record.{recordOf, bitOf, bitBytes, spareClear, takenSum, within, fits}
-use Rattle.records.specs.Contracts.{bitsSet, Span, takenOf, takenNumbers, Few, Numbered, Tallied, tallyFits, Fitted}
-use Rattle.records.proofs.Bits.{bit-le}
+use Rattle.records.specs.Record.{recordOf, spareClear, takenSum, within, fits}
+use Rattle.bits.specs.Bits.{bitOf, bitBytes}
+use Rattle.bits.specs.Contracts.{bitsSet, Span}
+use Rattle.records.specs.Contracts.{takenOf, takenNumbers, Few, Numbered, Tallied, tallyFits, Fitted}
+use Rattle.bits.proofs.Bits.{bit-le}
 
 -- a shorter sum
 sum-part : (m n : ℕ) (f : ℕ → ℕ) → m ≤ n → sumTo m f ≤ sumTo n f

@@ -1,7 +1,5 @@
-pub mod Bits
 pub mod Long
 pub mod Numbers
-pub mod Examples
+mod Examples
 pub mod Fitting
 pub mod Tallying
-pub mod Clearing

@@ -6,8 +6,9 @@ use lib.ListN.{length}
 use lib.Dec.{leb}
 use borrow.Author.Tests.{leb-true}
 use Rattle.base.proofs.Lists.{and-left, and-right}
-use Rattle.form.specs.Plan.{Plan, cellCount}
-use Rattle.records.specs.Record.{CampaignRecord, bitBytes, roomFor}
+use Rattle.weighted_arrays.specs.Plan.{Plan, cellCount}
+use Rattle.records.specs.Record.{CampaignRecord, roomFor}
+use Rattle.bits.specs.Bits.{bitBytes}
 
 module _ (p : Plan) (s : CampaignRecord) (room : roomFor p s ≡ true) where
   pub room-bits : bitBytes (p .denominator) ≤ length (s .bits)

@@ -10,13 +10,14 @@ use borrow.Author.Tests.{lt-ltb, le-ltb, ltb-false}
 use Rattle.base.specs.Lists.{sum, sumTo}
 use Rattle.table.specs.Table.{total}
 use Rattle.base.proofs.Sums.{sum-ext, sum-add-range, sum-same, sum-add, sum-term}
-use Rattle.form.specs.Plan.{Weighted, Plan, cellCount, arrayFor}
+use Rattle.weighted_arrays.specs.Plan.{Weighted, Plan, cellCount, arrayFor}
 use Rattle.opening.specs.Open.{heldTo}
-use Rattle.records.specs.Record.{bitOf, takenSum}
+use Rattle.bits.specs.Bits.{bitOf}
+use Rattle.records.specs.Record.{takenSum}
 use Rattle.base.proofs.Tests.{by-test}
 use Rattle.table.proofs.Totals.{total-one}
 use Rattle.opening.proofs.Sound.{Sound, Between, entry-between, weighted-places}
-use Rattle.records.proofs.Bits.{bit-le}
+use Rattle.bits.proofs.Bits.{bit-le}
 
 -- the array that belongs to a number below the sum of the weights is one of the list
 belongs : (P : List ℕ → Type 0) (l : List Weighted) (d : ℕ) → d < sum (map (λ a. a .weight) l)

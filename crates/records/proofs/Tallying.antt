@@ -17,15 +17,14 @@ use Rattle.base.specs.Buffers.{written}
 use Rattle.base.proofs.Every.{Passed, passed-none, passed-more, passed-all, every-not, every-ext}
 use Rattle.base.proofs.Buffers.{written-at, written-length}
 use Rattle.form.specs.declared.Sizes.{Sizes}
-use Rattle.form.specs.Plan.{arrayAt, cellCount}
+use Rattle.weighted_arrays.specs.Plan.{arrayAt, cellCount}
 use Rattle.form.specs.Form.{decode}
-use Rattle.form.specs.Contracts.{HasCounts, HasTable, Sized}
-use Rattle.form.proofs.Readings.{counts-length, cells-length}
-use Rattle.form.proofs.Sizing.{arrays-are, cells-are, sized-few, has-counts, has-table}
-use Rattle.opening.specs.Weighted.{maxProduct, Addable, Increased}
-use Rattle.opening.specs.Contracts.{factored, SumsTo}
-use Rattle.opening.proofs.Weighting.{sums-none, sums-addable, sums-more}
-use Rattle.opening.proofs.Scratch.{counts-read}
+use Rattle.reading.specs.Contracts.{HasCounts, HasTable, Sized}
+use Rattle.reading.proofs.Readings.{counts-length, cells-length}
+use Rattle.reading.proofs.Sizing.{arrays-are, cells-are, sized-few, has-counts, has-table}
+use Rattle.weighted_arrays.specs.Contracts.{maxProduct, Addable, Increased, factored, SumsTo}
+use Rattle.weighted_arrays.proofs.Weighting.{sums-none, sums-addable, sums-more}
+use Rattle.reading.proofs.Scratch.{counts-read}
 use Rattle.records.specs.Contracts.{ArrayAddable, ArraysAdded, Compared, tallyMet, Tallied, tallyFits}
 use Rattle.records.proofs.Fitting.{arrays-few}
 

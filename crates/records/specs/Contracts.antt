@@ -1,37 +1,22 @@
--- What the functions that test a record are held to: parts of the definitions of Record. No public contract cites them. Assumes nothing.
+-- What the functions that test a record are held to: parts of the definitions of Record. Assumes nothing.
 use mathlib.Core.Path.{_≡_}
 use mathlib.Core.List.{List}
 use mathlib.Core.Bool.{Bool}
 use Prim.Native.Nat.{ℕ, _+_, _*_, _<_, _≤_}
 use lib.ListN.{length, getD, replicate}
 use lib.Dec.{eqb}
-use Rattle.base.specs.Lists.{tabulate, sumTo, every}
+use Rattle.base.specs.Lists.{tabulate, every}
 use Rattle.base.specs.Buffers.{written}
 use Rattle.table.specs.Table.{maxCells, maxArrays, maxDenominator}
 use Rattle.form.specs.declared.Sizes.{Sizes}
-use Rattle.form.specs.Plan.{Weighted, Plan, arrayAt, cellCount}
+use Rattle.weighted_arrays.specs.Plan.{Weighted, Plan, arrayAt, cellCount}
 use Rattle.form.specs.Form.{decode}
 use Rattle.opening.specs.declared.Opened.the-variants as opened
 use Rattle.opening.specs.Open.{openAnswer}
-use Rattle.opening.specs.Weighted.{maxProduct, Addable}
-use Rattle.form.specs.Contracts.{Sized}
-use Rattle.opening.specs.Contracts.{weightsBefore, weightAt, factored, SumsTo}
-use Rattle.records.specs.Record.{bitOf, bitBytes}
-
--- how many of `count` bits from `from` on are set
-abbrev pub bitsSet : List ℕ → ℕ → ℕ → ℕ
-bitsSet bits from count = sumTo count (λ j. bitOf bits (from + j))
-
--- `count` bits from `from` on are there, and the code's sums of them stay small
-pub record Span (from count : ℕ) (bits : List ℕ) : Type 0 where
-  pub begins : from ≤ maxDenominator
-  pub few : count ≤ maxDenominator
-  pub room : from + count ≤ 8 * length bits
-
--- bit d is there and not set
-pub record Unset (d : ℕ) (bits : List ℕ) : Type 0 where
-  pub there : d < 8 * length bits
-  pub unset : bitOf bits d ≡ 0
+use Rattle.weighted_arrays.specs.Contracts.{maxProduct, Addable, weightsBefore, weightAt, factored, SumsTo}
+use Rattle.reading.specs.Contracts.{Sized}
+use Rattle.bits.specs.Bits.{bitBytes}
+use Rattle.bits.specs.Contracts.{bitsSet}
 
 -- the numbers of array k, counted from 0, begin after the weights before it: how many of them are taken
 abbrev pub takenOf : List Weighted → List ℕ → ℕ → ℕ

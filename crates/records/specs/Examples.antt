@@ -1,8 +1,8 @@
--- Literal cases of the record: the bytes that bits take, and whether a record fits (specification, "Campaign record"). Assumes nothing.
+-- Literal cases of the record: whether it fits (specification, "Campaign record"). Assumes nothing.
 use mathlib.Core.Bool.{Bool, true, false}
 use mathlib.Core.List.{List, [], _∷_}
 use Prim.Native.Nat.{ℕ}
-use Rattle.form.specs.Plan.{Plan}
+use Rattle.weighted_arrays.specs.Plan.{Plan}
 use Rattle.form.specs.Examples.{withWeight}
 use Rattle.records.specs.Record.{CampaignRecord, recordOf}
 
@@ -65,14 +65,3 @@ rows =
     ∷ bad halves (recordOf 0 0 (0 ∷ []) (1 ∷ 1 ∷ 1 ∷ 1 ∷ []))
     ∷ bad halves (recordOf 1 0 (1 ∷ []) (0 ∷ 1 ∷ 1 ∷ 1 ∷ []))
     ∷ []
-
--- the bytes that the bits of each denominator take
-pub record Bytes : Type 0 where
-  pub denominator : ℕ
-  pub bytes : ℕ
-
-abbrev pub takes : ℕ → ℕ → Bytes
-takes denominator bytes = record { denominator = denominator; bytes = bytes }
-
-abbrev pub lengths : List Bytes
-lengths = takes 1 1 ∷ takes 7 1 ∷ takes 8 1 ∷ takes 9 2 ∷ takes 16 2 ∷ takes 17 3 ∷ takes 65535 8192 ∷ []

@@ -1,11 +1,12 @@
 -- The campaign record, and when it fits a plan (specification, "Campaign record"). Assumes nothing.
 use mathlib.Core.Bool.{Bool, _&&_, _||_}
 use mathlib.Core.List.{List}
-use Prim.Native.Nat.{ℕ, _+_, _-_, _*_, _/_, _%_, _^_}
+use Prim.Native.Nat.{ℕ, _+_, _-_, _*_}
 use lib.ListN.{length, getD}
 use lib.Dec.{leb, ltb, eqb}
 use Rattle.base.specs.Lists.{sumTo, every}
-use Rattle.form.specs.Plan.{Plan, cellCount, arrayFor}
+use Rattle.weighted_arrays.specs.Plan.{Plan, cellCount, arrayFor}
+use Rattle.bits.specs.Bits.{bitOf, bitBytes}
 
 -- how many numbers are taken in this round, how many rounds are completed, a bit for each number, and a sum for each cell
 pub record CampaignRecord : Type 0 where
@@ -21,14 +22,6 @@ recordOf taken rounds bits tally = record { taken = taken; rounds = rounds; bits
 -- a campaign has at most so many rounds
 abbrev pub maxRounds : ℕ
 maxRounds = 1000
-
--- the bit of number d: of byte d / 8 the one worth 2 to the d mod 8
-unfoldable pub bitOf : List ℕ → ℕ → ℕ
-bitOf bits d = getD bits (d / 8) 0 / 2 ^ (d % 8) % 2
-
--- how many bytes the bits of a denominator take
-abbrev pub bitBytes : ℕ → ℕ
-bitBytes denominator = (denominator + 7) / 8
 
 -- the bits of the last byte that no number has are 0
 abbrev pub spareClear : ℕ → List ℕ → Bool

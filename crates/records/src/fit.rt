@@ -5,10 +5,10 @@ ghost use Rattle.base.specs.Lists.{sumTo};
 ghost use Rattle.form.specs.Form.{decode};
 ghost use Rattle.records.specs.Record.{recordOf, within, fits};
 ghost use Rattle.records.specs.Contracts.{Numbered, takenNumbers, Few, Fitted};
-use crate::bitset::bits_set;
 use crate::tally::tally_fits;
+use bits::bits_set;
 use form::Sizes;
-use form::read::weight;
+use reading::weight;
 
 // How many numbers of each array are taken.
 fn taken_numbers(plan: &[u8], s: Sizes, bits: &[u8]) -> [u32; 170]

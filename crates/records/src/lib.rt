@@ -1,15 +1,13 @@
-// Campaign records: a bit for each number, and whether a record fits a plan.
+// Campaign records, and whether one fits a plan.
 ghost use mathlib.Core.Path.{_≡_};
 ghost use mathlib.Core.List.{map};
-ghost use Rattle.records.specs.Record.{bitBytes, fits};
-ghost use Rattle.records.specs.Examples.{rows, lengths};
+ghost use Rattle.records.specs.Record.{fits};
+ghost use Rattle.records.specs.Examples.{rows};
 
-pub mod bitset;
 pub mod fit;
 mod tally;
 
-// The literal cases are as stated: records that fit, in the first rounds, in the last and after them, and each way not to; and how many bytes bits take.
+// The literal cases are as stated: records that fit, in the first rounds, in the last and after them, and each way not to.
 pub fn claims()
-    ensures fit { λ _. ⌜ map (λ r. fits (r .plan) (r .given)) rows ≡ map (λ r. r .fits) rows ⌝ }
-    ensures bytes { λ _. ⌜ map (λ x. bitBytes (x .denominator)) lengths ≡ map (λ x. x .bytes) lengths ⌝ }
+    ensures { λ _. ⌜ map (λ r. fits (r .plan) (r .given)) rows ≡ map (λ r. r .fits) rows ⌝ }
 {}

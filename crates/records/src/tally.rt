@@ -1,16 +1,16 @@
 // What the tally of a campaign record has to be.
 ghost use mathlib.Core.Path.{_≡_};
-ghost use Rattle.form.specs.Plan.{arrayAt};
+ghost use Rattle.weighted_arrays.specs.Plan.{arrayAt};
 ghost use Rattle.form.specs.Form.{decode};
-ghost use Rattle.form.specs.Contracts.{Sized};
-ghost use Rattle.opening.specs.Weighted.{Increased};
+ghost use Rattle.reading.specs.Contracts.{Sized};
+ghost use Rattle.weighted_arrays.specs.Contracts.{Increased};
 ghost use Rattle.records.specs.Contracts.{ArrayAddable, ArraysAdded, Compared, tallyMet, Tallied, tallyFits};
 use base::convert::u16_to_u64;
 use base::wide;
 use form::Sizes;
-use form::read::read_array;
-use form::read::read_table;
-use opening::weighted::add_weighted;
+use reading::read_array;
+use reading::read_table;
+use weighted_arrays::add_weighted;
 
 // Adds array k, counted from 0, times a factor to some sums.
 fn add_array(plan: &[u8], s: Sizes, k: usize, factor: u32, sums: &mut [u64; 144])

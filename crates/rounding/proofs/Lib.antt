@@ -1,15 +1,2 @@
-pub mod Firsts
-pub mod Orders
-pub mod Roundings
-pub mod Lines
-pub mod PlaceKinds
-pub mod Matrices
-pub mod FirstGrids
-pub mod GridLines
-pub mod GridRoundings
-pub mod PartLoops
-pub mod CountLoops
-pub mod CellWrites
 pub mod Calls
-pub mod Existence
-pub mod Examples
+mod Examples

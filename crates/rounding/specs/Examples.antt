@@ -1,41 +1,13 @@
--- Literal cases of controlled roundings, of the first of them and of the call "rounding" (specification, "The rounding" and "Refusals"). Assumes nothing.
-use mathlib.Core.Bool.{Bool, true, false}
+-- Literal cases of the call "rounding" (specification, "The rounding" and "Refusals"). Assumes nothing.
 use mathlib.Core.List.{List, [], _∷_}
 use Prim.Native.Nat.{ℕ}
 use lib.ListN.{length, replicate}
 use Rattle.base.specs.Buffers.{written}
 use Rattle.refusals.specs.Answer.{answerNumber}
 use Rattle.refusals.specs.Due.{answerOf, after}
-use Rattle.rounding.specs.Rounding.{isRounding, firstRounding}
+use Rattle.is_rounding.specs.Examples.{table}
+use Rattle.first_rounding.specs.First.{firstRounding}
 use Rattle.rounding.specs.Call.{roundRefusal}
-
--- an array, and whether it is a controlled rounding of two rows and three columns: D 10, cells 3 4 5 and 20 6 7
-pub record Candidate : Type 0 where
-  pub counts : List ℕ
-  pub rounds : Bool
-
-abbrev pub table : List ℕ
-table = 3 ∷ 4 ∷ 5 ∷ 20 ∷ 6 ∷ 7 ∷ []
-
-abbrev pub roundsTable : Candidate → Bool
-roundsTable x = isRounding 2 3 10 table (x .counts)
-
-abbrev pub candidates : List Candidate
-candidates =
-    record { counts = 0 ∷ 0 ∷ 1 ∷ 2 ∷ 1 ∷ 0 ∷ []; rounds = true }
-    ∷ record { counts = 1 ∷ 1 ∷ 0 ∷ 2 ∷ 0 ∷ 1 ∷ []; rounds = true }
-    -- each of these breaks one entry alone: a cell, a whole cell, the first and the second row, a whole column, another column, the grand total
-    ∷ record { counts = 0 ∷ 0 ∷ 2 ∷ 2 ∷ 1 ∷ 0 ∷ []; rounds = false }
-    ∷ record { counts = 0 ∷ 0 ∷ 1 ∷ 3 ∷ 1 ∷ 0 ∷ []; rounds = false }
-    ∷ record { counts = 0 ∷ 0 ∷ 0 ∷ 2 ∷ 1 ∷ 1 ∷ []; rounds = false }
-    ∷ record { counts = 0 ∷ 1 ∷ 1 ∷ 2 ∷ 0 ∷ 0 ∷ []; rounds = false }
-    ∷ record { counts = 0 ∷ 0 ∷ 1 ∷ 2 ∷ 0 ∷ 1 ∷ []; rounds = false }
-    ∷ record { counts = 1 ∷ 0 ∷ 0 ∷ 2 ∷ 1 ∷ 0 ∷ []; rounds = false }
-    ∷ record { counts = 1 ∷ 0 ∷ 1 ∷ 2 ∷ 1 ∷ 1 ∷ []; rounds = false }
-    -- one count too few, one too many
-    ∷ record { counts = 0 ∷ 0 ∷ 1 ∷ 2 ∷ 1 ∷ []; rounds = false }
-    ∷ record { counts = 0 ∷ 0 ∷ 1 ∷ 2 ∷ 1 ∷ 0 ∷ 0 ∷ []; rounds = false }
-    ∷ []
 
 -- a call: a table and a buffer; the number that it returns, and the buffer as it leaves it
 pub record Round : Type 0 where

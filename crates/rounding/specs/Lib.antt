@@ -1,5 +1,3 @@
-pub mod Order
-pub mod Rounding
 pub mod Call
 pub mod Contracts
 pub mod Examples

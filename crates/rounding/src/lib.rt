@@ -1,29 +1,21 @@
-// Controlled roundings: the first of a table, in the stated order.
+// The call "rounding": the first controlled rounding of a table.
 ghost use mathlib.Core.Path.{_≡_};
-ghost use mathlib.Core.List.{List, map};
-ghost use mathlib.Core.Option.{none};
-ghost use Prim.Native.Nat.{ℕ};
+ghost use mathlib.Core.List.{map};
 ghost use lib.ListN.{length};
 ghost use Rattle.refusals.specs.Due.{Answers};
 ghost use Rattle.base.specs.Buffers.{written};
-ghost use Rattle.table.specs.Check.{tableRefusal};
-ghost use Rattle.rounding.specs.Rounding.{IsFirst, firstRounding};
+ghost use Rattle.first_rounding.specs.First.{firstRounding};
 ghost use Rattle.rounding.specs.Call.{roundRefusal};
 ghost use Rattle.rounding.specs.Contracts.{TableReady};
-ghost use Rattle.rounding.specs.Examples.{candidates, roundsTable, roundCases, rounded, said};
-use crate::first::round_grid;
-use crate::write::write_cells;
+ghost use Rattle.rounding.specs.Examples.{roundCases, rounded, said};
+use first_rounding::round_grid;
 use grid::entries;
+use grid::write::write_cells;
 use refusals::Answer;
 use refusals::Refusal;
 use table::Checked;
 use table::Table;
 use table::check::check;
-
-pub mod first;
-mod needs;
-mod parts;
-pub mod write;
 
 // Writes the first controlled rounding of an accepted table.
 pub fn write_rounding(t: Table, cells: &[u32], counts: &mut [u16])
@@ -57,10 +49,7 @@ pub fn round(rows: u32, columns: u32, denominator: u32, cells: &[u32], counts: &
     }
 }
 
-// Every accepted table has a controlled rounding, and what the call writes is the first of them; and the literal cases are as stated: arrays that are
-// controlled roundings and arrays that are not, and calls, with 7 beside each other refusal.
+// The literal calls are as stated, with 7 beside each other refusal.
 pub fn claims()
-    ensures exists { λ _. ⌜ ((r c d : ℕ) (g : List ℕ) → tableRefusal r c d g ≡ none → IsFirst r c d g (firstRounding r c d g)) ⌝ }
-    ensures candidates { λ _. ⌜ map roundsTable candidates ≡ map (λ x. x .rounds) candidates ⌝ }
     ensures calls { λ _. ⌜ map rounded roundCases ≡ map said roundCases ⌝ }
 {}

@@ -1,4 +1,4 @@
--- Sets of indices below 13 as numbers: i is a member where binary digit i is 1. Inner definitions of the search, which only this crate's functions and those of margins cite. Assumes nothing.
+-- Sets of indices below 13 as numbers: i is a member where binary digit i is 1. Assumes nothing.
 use mathlib.Core.Path.{_≡_}
 use mathlib.Core.Bool.{Bool, true, false}
 use mathlib.Core.List.{List}

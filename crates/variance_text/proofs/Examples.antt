@@ -5,7 +5,8 @@ use Rattle.base.specs.Lists.{tabulate, sum, joinTo, all, sumℤ}
 use Rattle.table.specs.Table.{total, entryPlaces}
 use Rattle.table.specs.Whole.{whole, roundsTo}
 use Rattle.refusals.specs.Due.{due}
-use Rattle.form.specs.Form.{number, decode, headRight, laidOut}
+use Rattle.byte_numbers.specs.Bytes.{number}
+use Rattle.form.specs.Form.{decode, headRight, laidOut}
 use Rattle.opening.specs.Open.{consistent, openRefusal}
 use Rattle.variances.specs.Covariance.{covariance, extreme, covariances, numerators}
 use Rattle.printing.specs.Lines.{digits, decimal, spaced, line, refused}

@@ -16,7 +16,7 @@ use Rattle.table.specs.Whole.{up, roundsTo}
 use Rattle.table.proofs.Roundings.{rounds-low, rounds-high, gap-le, gap-whole, gap-part}
 use Rattle.table.proofs.Totals.{total-cell}
 use Rattle.table.proofs.EntryTests.{entries-each}
-use Rattle.form.specs.Plan.{Weighted, Plan, cellCount}
+use Rattle.weighted_arrays.specs.Plan.{Weighted, Plan, cellCount}
 use Rattle.form.specs.Form.{decode}
 use Rattle.form.proofs.Layouts.{laid}
 use Rattle.opening.specs.Open.{heldTo, held, Opens}

@@ -19,15 +19,15 @@ use Rattle.base.proofs.Buffers.{written-front}
 use Rattle.base.proofs.Sums.{sum-front}
 use Rattle.base.proofs.Lists.{and-left, and-right, and-both, all-append, all-tabulate, tabulate-ext, map-tabulate, length-tabulate}
 use Rattle.form.specs.declared.Sizes.{Sizes}
-use Rattle.form.specs.Plan.{Plan, cellCount}
+use Rattle.weighted_arrays.specs.Plan.{Plan, cellCount}
 use Rattle.form.specs.Form.{sizesOf, decode}
-use Rattle.form.specs.Contracts.{Sized, HasTable}
-use Rattle.form.proofs.Readings.{cells-length}
-use Rattle.form.proofs.Sizing.{cells-are, denominator-is, sized-few, sized-some, sized-denominator, has-table}
+use Rattle.reading.specs.Contracts.{Sized, HasTable}
+use Rattle.reading.proofs.Readings.{cells-length}
+use Rattle.reading.proofs.Sizing.{cells-are, denominator-is, sized-few, sized-some, sized-denominator, has-table}
 use Rattle.opening.specs.declared.Opened.the-variants as opened
 use Rattle.opening.specs.Open.{Opens, openAnswer}
 use Rattle.opening.proofs.Opening.{opens-answer, opened-sized, sizes-product}
-use Rattle.opening.proofs.Scratch.{scratch-room}
+use Rattle.reading.proofs.Scratch.{scratch-room}
 use Rattle.variances.specs.declared.Extremes.{Extremes}
 use Rattle.variances.specs.Covariance.{at, weightedProducts, covariance, cellCovariance, smaller, larger, extreme, covariances, numerators, roundingVariance}
 use Rattle.variances.specs.Contracts.{lift, Measured, liftedPair, liftedPairs, CellsReady, ExtremesOf, widest, Extremal, SumReady, variancesOf, VariancesOf}

@@ -10,15 +10,15 @@ use Rattle.base.specs.Contracts.{Widened}
 use Rattle.base.proofs.Lists.{tabulate-ext}
 use Rattle.base.proofs.Sums.{sum-ext, sum-places}
 use Rattle.form.specs.declared.Sizes.{Sizes}
-use Rattle.form.specs.Plan.{Weighted, Plan, arrayAt, cellCount}
+use Rattle.weighted_arrays.specs.Plan.{Weighted, Plan, arrayAt, cellCount}
 use Rattle.form.specs.Form.{decode}
-use Rattle.form.specs.Contracts.{Sized}
-use Rattle.form.proofs.Readings.{cells-length, decode-few}
-use Rattle.form.proofs.Sizing.{sized-some, sized-denominator, denominator-is}
-use Rattle.opening.specs.Contracts.{SumsTo}
+use Rattle.reading.specs.Contracts.{Sized}
+use Rattle.reading.proofs.Readings.{cells-length, decode-few}
+use Rattle.reading.proofs.Sizing.{sized-some, sized-denominator, denominator-is}
+use Rattle.weighted_arrays.specs.Contracts.{SumsTo}
 use Rattle.opening.proofs.Opening.{is-open, opened-sized}
 use Rattle.opening.proofs.Sound.{Sound, sound}
-use Rattle.opening.proofs.Weighting.{sums-none}
+use Rattle.weighted_arrays.proofs.Weighting.{sums-none}
 use Rattle.variances.specs.declared.Extremes.{Extremes}
 use Rattle.variances.specs.Covariance.{at, weightedProducts}
 use Rattle.variances.specs.Contracts.{lift, KeepReady, factors, RowReady, Liftable, liftedRow, ExtremesReady, ExtremesOf, liftedPair, liftedPairs, CellsReady, RowsReady, RowAt, widest}

@@ -14,16 +14,15 @@ use Rattle.base.proofs.Buffers.{written-at, written-length}
 use Rattle.base.proofs.Sums.{sum-places, sum-term}
 use Rattle.base.specs.Contracts.{Widened}
 use Rattle.form.specs.declared.Sizes.{Sizes}
-use Rattle.form.specs.Plan.{Weighted, arrayAt}
+use Rattle.weighted_arrays.specs.Plan.{Weighted, arrayAt}
 use Rattle.form.specs.Form.{decode}
-use Rattle.form.specs.Contracts.{Sized, HasArray}
-use Rattle.form.proofs.Readings.{decode-few}
-use Rattle.form.proofs.Sizing.{arrays-are, sized-arrays, sized-denominator, denominator-is, has-array}
-use Rattle.opening.specs.Contracts.{SumsTo}
-use Rattle.opening.specs.Weighted.{Addable, Increased}
+use Rattle.reading.specs.Contracts.{Sized, HasArray}
+use Rattle.reading.proofs.Readings.{decode-few}
+use Rattle.reading.proofs.Sizing.{arrays-are, sized-arrays, sized-denominator, denominator-is, has-array}
+use Rattle.weighted_arrays.specs.Contracts.{SumsTo, Addable, Increased}
 use Rattle.opening.proofs.Opening.{is-open, opened-sized}
 use Rattle.opening.proofs.Opens.{weights-add-up}
-use Rattle.opening.proofs.Weighting.{sums-addable, sums-more-at}
+use Rattle.weighted_arrays.proofs.Weighting.{sums-addable, sums-more-at}
 use Rattle.variances.specs.Contracts.{maxCounts, Kept, factors, RowReady}
 
 -- a part of a list put in the place of another as long

@@ -4,17 +4,17 @@ use mathlib.Core.List.{List, [], _∷_, foldl}
 use Prim.Native.Nat.{ℕ, _+_, _-_, _*_, _≤_, _<_, min, max}
 use lib.IntN.{ℤ, pos, subℕ}
 use lib.ListN.{length, getD}
-use Rattle.form.specs.Plan.{Plan, Weighted, arrayAt, cellCount}
+use Rattle.weighted_arrays.specs.Plan.{Plan, Weighted, arrayAt, cellCount}
 use Rattle.variances.specs.declared.Numerators.{Numerators}
 use Rattle.variances.specs.Covariance.{numerators, at, weightedProducts, roundingVariance, covariances, smallest, largest}
 use Rattle.base.specs.Lists.{tabulate, sumTo, joinTo}
 use Rattle.table.specs.Table.{maxDenominator}
 use Rattle.form.specs.declared.Sizes.{Sizes}
 use Rattle.form.specs.Form.{decode}
-use Rattle.form.specs.Contracts.{Sized}
+use Rattle.reading.specs.Contracts.{Sized}
 use Rattle.opening.specs.declared.Opened.the-variants as opened
 use Rattle.opening.specs.Open.{openAnswer}
-use Rattle.opening.specs.Contracts.{SumsTo}
+use Rattle.weighted_arrays.specs.Contracts.{SumsTo}
 use Rattle.variances.specs.declared.Extremes.{Extremes}
 
 -- by how much: the largest product of two cells, 1000 · 65,535 each

@@ -7,7 +7,7 @@ use lib.ListN.{getD}
 use lib.Signed.{leZ}
 use Rattle.base.specs.Lists.{tabulate, sum, sumℤ, joinTo}
 use Rattle.table.specs.Table.{total}
-use Rattle.form.specs.Plan.{Weighted, Plan, cellCount}
+use Rattle.weighted_arrays.specs.Plan.{Weighted, Plan, cellCount}
 
 -- what is looked at in the table and in each array alike: the number at a place, or the total over some places
 abbrev pub at : ℕ → List ℕ → ℕ

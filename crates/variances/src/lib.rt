@@ -5,7 +5,7 @@ ghost use Prim.Native.Nat.{ℕ, _*_, _<_, _≤_};
 ghost use lib.IntN.{pos};
 ghost use lib.ListN.{getD};
 ghost use Rattle.table.specs.Table.{total};
-ghost use Rattle.form.specs.Plan.{Plan, cellCount};
+ghost use Rattle.weighted_arrays.specs.Plan.{Plan, cellCount};
 ghost use Rattle.form.specs.Form.{decode};
 ghost use Rattle.opening.specs.Open.{heldTo, Opens};
 ghost use Rattle.variances.specs.Covariance.{at, weightedProducts, covariance, cellCovariance, variance, overPairs, roundingVariance};

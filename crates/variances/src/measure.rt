@@ -10,7 +10,7 @@ use crate::Numerators;
 use crate::pairs::extremes;
 use base::wide;
 use form::Sizes;
-use form::read::read_table;
+use reading::read_table;
 use table::whole::divide;
 
 // The variance of a cell: f·(D - f), f its remainder by D.

@@ -2,7 +2,7 @@
 ghost use mathlib.Core.Path.{_≡_};
 ghost use Prim.Native.Nat.{min, max};
 ghost use Rattle.base.specs.Lists.{tabulate};
-ghost use Rattle.form.specs.Plan.{cellCount};
+ghost use Rattle.weighted_arrays.specs.Plan.{cellCount};
 ghost use Rattle.form.specs.Form.{decode};
 ghost use Rattle.variances.specs.Contracts.{lifted, Liftable, liftedRow, ExtremesReady, ExtremesOf, liftedPair, liftedPairs, CellsReady, RowsReady, RowAt, widest, Extremal};
 use crate::Extremes;

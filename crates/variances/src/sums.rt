@@ -1,14 +1,14 @@
 // For one cell and each cell before it: the products of their counts times the weights, added up.
 ghost use lib.ListN.{length};
-ghost use Rattle.form.specs.Plan.{cellCount};
+ghost use Rattle.weighted_arrays.specs.Plan.{cellCount};
 ghost use Rattle.form.specs.Form.{decode};
-ghost use Rattle.opening.specs.Contracts.{SumsTo};
+ghost use Rattle.weighted_arrays.specs.Contracts.{SumsTo};
 ghost use Rattle.variances.specs.Contracts.{KeepReady, Kept, RowReady, factors};
 use base::convert::u16_to_u32;
 use form::Sizes;
-use form::read::read_array;
-use form::read::weight;
-use opening::weighted::add_weighted;
+use reading::read_array;
+use reading::weight;
+use weighted_arrays::add_weighted;
 
 // Reads the counts of all arrays, one array after another, so that each is read once.
 pub fn keep_counts(plan: &[u8], s: Sizes, counts: &mut [u16])

@@ -5,8 +5,9 @@ use Rattle.base.specs.Lists.{tabulate, sum, all}
 use Rattle.table.specs.Table.{total, entryPlaces}
 use Rattle.table.specs.Whole.{whole, roundsTo}
 use Rattle.refusals.specs.Due.{due}
-use Rattle.form.specs.Form.{number, decode, headRight, laidOut}
-use Rattle.form.specs.Find.{foundWeight, foundCount}
+use Rattle.byte_numbers.specs.Bytes.{number}
+use Rattle.form.specs.Form.{decode, headRight, laidOut}
+use Rattle.view.specs.Find.{foundWeight, foundCount}
 use Rattle.opening.specs.Open.{consistent, openRefusal, openAnswer}
 use Rattle.view.specs.View.{weightAnswer, countAnswer}
 use Rattle.view.specs.Examples.{summaries, summariesFound, weights, weightsFound, places, countFound}

@@ -1,2 +1,3 @@
+mod Finds
 mod Viewing
 pub mod Examples

@@ -13,15 +13,15 @@ use mir.Syntax.{w64}
 use borrow.Author.Tests.{le-leb, lt-ltb, le-ltb, leb-true, ltb-true, not-true, not-false}
 use Rattle.base.proofs.Lists.{getD-tabulate, and-left, and-right, and-both}
 use Rattle.table.specs.Check.{upTo}
-use Rattle.form.specs.declared.find.Reading.{Reading}
-use Rattle.form.specs.declared.find.Reading.the-variants.{Value, Missing}
-use Rattle.form.specs.Plan.{arrayAt}
+use Rattle.view.specs.declared.find.Reading.{Reading}
+use Rattle.view.specs.declared.find.Reading.the-variants.{Value, Missing}
+use Rattle.weighted_arrays.specs.Plan.{arrayAt}
 use Rattle.form.specs.Form.{rowsOf, columnsOf, arraysOf, amountOf, countOf, decode}
-use Rattle.form.specs.Find.{foundWeight, foundCount}
+use Rattle.view.specs.Find.{foundWeight, foundCount}
 use Rattle.form.specs.Contracts.{Laid}
 use Rattle.form.proofs.Layouts.{laid}
-use Rattle.form.proofs.Readings.{decode-arrays, decode-weight, decode-counts, contents-room, body-inside}
-use Rattle.form.proofs.Finds.{weight-found, count-there}
+use Rattle.reading.proofs.Readings.{decode-arrays, decode-weight, decode-counts, contents-room, body-inside}
+use Rattle.view.proofs.Finds.{weight-found, count-there}
 use Rattle.opening.specs.Open.{Opens, openAnswer}
 use Rattle.opening.proofs.Opening.{opens-layout, opens-answer}
 use Rattle.view.specs.declared.Summary.{Summary}

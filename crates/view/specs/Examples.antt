@@ -1,8 +1,8 @@
 -- What a view of a plan that is typed out byte by byte says: arrays are counted from 1, rows and columns from 0. Assumes nothing.
 use mathlib.Core.List.{List, [], _∷_, map}
 use Prim.Native.Nat.{ℕ}
-use Rattle.form.specs.declared.find.Reading.{Reading}
-use Rattle.form.specs.declared.find.Reading.the-variants.{Value, Missing}
+use Rattle.view.specs.declared.find.Reading.{Reading}
+use Rattle.view.specs.declared.find.Reading.the-variants.{Value, Missing}
 use Rattle.form.specs.Examples.{wide}
 use Rattle.opening.specs.Open.{openAnswer}
 use Rattle.view.specs.declared.Summary.{Summary}

@@ -8,11 +8,11 @@ use lib.Dec.{leb, ltb}
 use Rattle.refusals.specs.Numbers.{numberOf}
 use Rattle.table.specs.Table.{maxRows, maxColumns}
 use Rattle.table.specs.Check.{upTo}
-use Rattle.form.specs.declared.find.Reading.{Reading}
-use Rattle.form.specs.declared.find.Reading.the-variants.{Value, Missing}
-use Rattle.form.specs.Plan.{arrayAt}
+use Rattle.view.specs.declared.find.Reading.{Reading}
+use Rattle.view.specs.declared.find.Reading.the-variants.{Value, Missing}
+use Rattle.weighted_arrays.specs.Plan.{arrayAt}
 use Rattle.form.specs.Form.{rowsOf, columnsOf, arraysOf, decode}
-use Rattle.form.specs.Find.{foundWeight, foundCount}
+use Rattle.view.specs.Find.{foundWeight, foundCount}
 use Rattle.opening.specs.declared.Opened.{Opened}
 use Rattle.opening.specs.declared.Opened.the-variants as opened
 use Rattle.opening.specs.Open.{openAnswer}

@@ -6,12 +6,14 @@ ghost use Rattle.table.specs.Check.{upTo};
 ghost use Rattle.opening.specs.Open.{Opens, openAnswer};
 ghost use Rattle.view.specs.View.{summaryOf, hasCell, weightAnswer, countAnswer, Readers};
 ghost use Rattle.view.specs.Examples.{summaries, summariesFound, weights, weightsFound, places, countFound};
-use form::find::Reading;
-use form::find::find_count;
-use form::find::find_weight;
+use crate::find::Reading;
+use crate::find::find_count;
+use crate::find::find_weight;
 use opening::Opened;
 use opening::open::open;
 use table::Table;
+
+pub mod find;
 
 // What opening finds, in plain numbers: 0 or the number of the refusal, and the sizes, 0 where there is a refusal.
 pub struct Summary {

@@ -12,11 +12,13 @@ use Rattle.base.proofs.Lists.{length-tabulate, getD-tabulate}
 use Rattle.base.proofs.Joins.{length-join, join-ext, join-join}
 use Rattle.base.proofs.Puts.{put-then, put-start, Put, put-more}
 use Rattle.form.specs.declared.Sizes.{Sizes}
-use Rattle.form.specs.Plan.{Weighted, arrayAt}
-use Rattle.form.specs.Form.{bytes, head, contentsEntry, bodyAt, amountIn, encode}
+use Rattle.weighted_arrays.specs.Plan.{Weighted, arrayAt}
+use Rattle.byte_numbers.specs.Bytes.{bytes}
+use Rattle.form.specs.Form.{head, contentsEntry, bodyAt, amountIn, encode}
 use Rattle.form.specs.Contracts.{Bounded}
 use Rattle.form.proofs.Layouts.{offset-fits}
-use Rattle.form.proofs.Encodings.{length-entry, length-numbers, length-head}
+use Rattle.form.proofs.Encodings.{length-entry, length-head}
+use Rattle.byte_numbers.proofs.Held.{length-numbers}
 use Rattle.writing.specs.Contracts.{bufferedArray, bufferedPlan, bufferedAmount, bufferedEntry, numbers, Listed, Writable}
 
 -- the entries of the contents

@@ -6,8 +6,9 @@ use Rattle.base.specs.Lists.{tabulate, joinTo}
 use Rattle.table.specs.Table.{maxArrays}
 use Rattle.table.specs.Contracts.{Shape}
 use Rattle.form.specs.declared.Sizes.{Sizes}
-use Rattle.form.specs.Plan.{Weighted, Plan}
-use Rattle.form.specs.Form.{bytes, bodyAt, planLength, contentsEntry}
+use Rattle.weighted_arrays.specs.Plan.{Weighted, Plan}
+use Rattle.byte_numbers.specs.Bytes.{bytes}
+use Rattle.form.specs.Form.{bodyAt, planLength, contentsEntry}
 use Rattle.form.specs.Contracts.{Bounded}
 
 -- the plan that a caller holds in buffers: k weights, and the counts of the arrays one after another

@@ -4,37 +4,14 @@ ghost use Prim.Native.Nat.{_+_, _*_, _≤_};
 ghost use lib.ListN.{length};
 ghost use Rattle.base.specs.Lists.{joinTo};
 ghost use Rattle.base.specs.Buffers.{written, putAt};
-ghost use Rattle.form.specs.Form.{bytes, head, contentsEntry, encode};
+ghost use Rattle.form.specs.Form.{head, contentsEntry, encode};
 ghost use Rattle.form.specs.Contracts.{Bounded};
 ghost use Rattle.writing.specs.Contracts.{bufferedPlan, bufferedAmount, bufferedEntry, numbers, Listed, Writable};
+use byte_numbers::write::put1;
+use byte_numbers::write::put2;
+use byte_numbers::write::put4;
 use form::Sizes;
 use form::layout::body_at;
-
-// Puts a byte at a place.
-fn put1(x: u8, at: usize, plan: &mut [u8])
-    requires { ⌜ at + 1 ≤ length (now plan) ⌝ }
-    ensures { λ _. ⌜ now (plan .exit) ≡ putAt (now (plan .entry)) at (bytes 1 x) ⌝ }
-{
-    plan[at] = x;
-}
-
-// Puts a number at a place in two bytes, low byte first.
-fn put2(x: u16, at: usize, plan: &mut [u8])
-    requires { ⌜ at + 2 ≤ length (now plan) ⌝ }
-    ensures { λ _. ⌜ now (plan .exit) ≡ putAt (now (plan .entry)) at (bytes 2 x) ⌝ }
-{
-    put1((x % 256) as u8, at, plan);
-    put1((x / 256) as u8, at + 1, plan);
-}
-
-// Puts a number at a place in four bytes, low byte first.
-fn put4(x: u32, at: usize, plan: &mut [u8])
-    requires { ⌜ at + 4 ≤ length (now plan) ⌝ }
-    ensures { λ _. ⌜ now (plan .exit) ≡ putAt (now (plan .entry)) at (bytes 4 x) ⌝ }
-{
-    put2((x % 65536) as u16, at, plan);
-    put2((x / 65536) as u16, at + 2, plan);
-}
 
 // Puts the head at the start.
 fn head(rows: usize, columns: usize, arrays: usize, plan: &mut [u8])

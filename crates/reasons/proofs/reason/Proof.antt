@@ -1,4 +1,4 @@
-use Rattle.reasons.proofs.Replying.{table-refused, is-table, asked}
+use Rattle.reasons.proofs.Asking.{table-refused, is-table, asked}
 use borrow.Author.Needs.{needs}
 use Rattle.reasons.proofs.reason.Statement.{statement}
 use Rattle.reasons.proofs.reason.Tie as tie

@@ -1,10 +1,10 @@
 -- `records::claims` states what proofs/Examples.antt proves.
-use Rattle.records.proofs.Examples.{rows-hold, lengths-hold}
+use Rattle.records.proofs.Examples.{rows-hold}
 use Rattle.records.proofs.claims.Statement.{statement}
 use Rattle.records.proofs.claims.Tie as tie
 
 returns : tie.Need-returns
-returns c = (rows-hold, lengths-hold)
+returns c = rows-hold
 
 pub claims-spec : {M : Type 1} → statement M
 claims-spec = tie.close (tie.spec returns)

@@ -1,5 +1,6 @@
 use mathlib.Core.Path.{refl}
-use Rattle.rounding.proofs.Calls.{table-grid, cells-ready, rounding-written}
+use Rattle.first_rounding.proofs.Small.{table-grid}
+use Rattle.rounding.proofs.Calls.{cells-ready, rounding-written}
 use borrow.Author.Needs.{needs}
 use Rattle.rounding.proofs.write_rounding.Statement.{statement}
 use Rattle.rounding.proofs.write_rounding.Tie as tie

@@ -43,13 +43,13 @@ use denote.Exit.{yes}
 use denote.Triple.Clauses.{ensured, lasts}
 use Rattle.view.specs.View.{weightAnswer}
 use Rattle.view.specs.declared.View.{View}
-use Rattle.form.specs.declared.find.Reading.{Reading}
+use Rattle.view.specs.declared.find.Reading.{Reading}
 use Rattle.view.proofs.View as T
 use Rattle.view.proofs.View.Laws as T′
 use Rattle.view.proofs.Summary as F
 use Rattle.view.proofs.Summary.Laws as F′
-use Rattle.form.proofs.find.Reading as S
-use Rattle.form.proofs.find.Reading.Laws as S′
+use Rattle.view.proofs.find.Reading as S
+use Rattle.view.proofs.find.Reading.Laws as S′
 use Rattle.view.proofs.weight_in as callee
 use Rattle.view.proofs.weight_in.Symbol as callee-def
 use Rattle.view.proofs.weight_in.Symbol.{name as #callee}

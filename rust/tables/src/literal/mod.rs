@@ -1,7 +1,8 @@
 //! Literal cases of every call: what it is given, what it returns and what it leaves,
 //! typed out by hand from the specification, 01. The proved definitions are held to
 //! the same tables, with the same rows in the same order: `specs/Examples.antt` of
-//! each crate but `division`, and for runs `specs/Campaigns.antt` of `demands`.
+//! each crate but `bits`, `division` and `records`, and for runs `specs/Campaigns.antt`
+//! of `demands`.
 
 pub mod campaign;
 pub mod check;

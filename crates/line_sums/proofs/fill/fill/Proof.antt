@@ -3,7 +3,7 @@ use Rattle.line_sums.proofs.fill.fill.Tie as tie
 use borrow.Author.Needs.{needs}
 use native.Mathlib.Omega.{arith}
 use Prim.Native.Nat.{_≤_, _-_}
-use Rattle.line_sums.specs.Board.{FilledBy, Lacking}
+use Rattle.line_sums.specs.Contracts.{FilledBy, Lacking}
 use Rattle.line_sums.proofs.Fills.{lacking-all, filled-none, filled-then, filled-as, lastRows, rows-none, rows-next, rows-all, room-next}
 
 abbrev Inv-loop : tie.InvT-loop

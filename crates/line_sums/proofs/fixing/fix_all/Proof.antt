@@ -4,7 +4,7 @@ use borrow.Author.Needs.{needs}
 use mathlib.Core.Path.{_≡_}
 use native.Mathlib.Omega.{arith}
 use Prim.Native.Nat.{_≤_, _-_}
-use Rattle.line_sums.specs.Board.{CellsFixed}
+use Rattle.line_sums.specs.Contracts.{CellsFixed}
 use Rattle.line_sums.proofs.Fixes.{first-none, first-next, cell-inside}
 
 abbrev Inv-loop : tie.InvT-loop

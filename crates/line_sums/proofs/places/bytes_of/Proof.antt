@@ -4,7 +4,7 @@ use borrow.Author.Needs.{needs}
 use native.Mathlib.Omega.{arith}
 use mathlib.Core.Path.{refl}
 use Prim.Native.Nat.{_*_, _-_, _≤_}
-use Rattle.line_sums.specs.Board.{BytesOf}
+use Rattle.line_sums.specs.Contracts.{BytesOf}
 use Rattle.line_sums.proofs.FirstMatrices.{bytes-as}
 
 abbrev Inv-loop : tie.InvT-loop

@@ -5,7 +5,7 @@ use native.Mathlib.Omega.{arith}
 use mathlib.Core.Path.{_≡_}
 use Prim.Native.Nat.{ℕ, _-_, _≤_, _<_}
 use lib.ListN.{length, length-set}
-use Rattle.line_sums.specs.Matrix.{at}
+use Rattle.line_sums.specs.Contracts.{at}
 use Rattle.sets.specs.Contracts.{on, has}
 use Rattle.base.proofs.Lists.{each-more}
 

@@ -3,7 +3,7 @@ use Rattle.line_sums.proofs.places.write_row.Tie as tie
 use borrow.Author.Needs.{needs}
 use native.Mathlib.Omega.{arith}
 use Prim.Native.Nat.{_+_, _*_, _-_, _≤_}
-use Rattle.line_sums.specs.Board.{BytesOf}
+use Rattle.line_sums.specs.Contracts.{BytesOf}
 use Rattle.line_sums.proofs.FirstMatrices.{bytes-next, bytes-as}
 
 abbrev Inv-loop : tie.InvT-loop

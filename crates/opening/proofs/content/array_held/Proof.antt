@@ -1,5 +1,5 @@
-use Rattle.form.proofs.Sizing.{sized-fits, sized-few, has-array, has-counts}
-use Rattle.opening.proofs.Scratch.{read-within, read-length}
+use Rattle.reading.proofs.Sizing.{sized-fits, sized-few, has-array, has-counts}
+use Rattle.reading.proofs.Scratch.{read-within, read-length}
 use Rattle.opening.proofs.ContentTests.{read-addable, read-counts, array-tested}
 use borrow.Author.Needs.{needs}
 use Rattle.opening.proofs.content.array_held.Statement.{statement}

@@ -2,9 +2,9 @@ use Prim.Native.Nat.{_≤_, _-_}
 use mathlib.Core.Path.{_≡_, refl}
 use native.Mathlib.Omega.{arith}
 use Rattle.base.proofs.Every.{Passed, passed-none, passed-next}
-use Rattle.form.specs.Plan.{cellCount}
+use Rattle.weighted_arrays.specs.Plan.{cellCount}
 use Rattle.form.specs.Form.{decode}
-use Rattle.opening.specs.Contracts.{weightAt, SumsTo}
+use Rattle.weighted_arrays.specs.Contracts.{weightAt, SumsTo}
 use Rattle.opening.proofs.ContentTests.{heldAt, array-fails, arrays-pass}
 use borrow.Author.Needs.{needs}
 use Rattle.opening.proofs.content.arrays_held.Statement.{statement}

@@ -1,4 +1,4 @@
-use Rattle.form.proofs.Sizing.{sized-fits, sized-few, sized-denominator, has-table}
+use Rattle.reading.proofs.Sizing.{sized-fits, sized-few, sized-denominator, has-table}
 use Rattle.opening.proofs.ContentTests.{cells-within-room, cells-part, bad-cell, table-is, bad-weights, right-by}
 use borrow.Author.Needs.{needs}
 use Rattle.opening.proofs.content.consistent.Statement.{statement}

@@ -1,7 +1,7 @@
 use Prim.Native.Nat.{_≤_, _-_}
 use mathlib.Core.Path.{_≡_}
 use Rattle.form.specs.Form.{decode}
-use Rattle.form.proofs.Sizing.{has-array}
+use Rattle.reading.proofs.Sizing.{has-array}
 use Rattle.opening.proofs.ContentTests.{Weighed, weighed-none, no-weight, weights-fit, weighed-more, weighed-all}
 use borrow.Author.Needs.{needs}
 use Rattle.opening.proofs.content.weights_right.Statement.{statement}

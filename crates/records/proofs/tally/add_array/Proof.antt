@@ -1,5 +1,5 @@
-use Rattle.form.proofs.Sizing.{sized-fits}
-use Rattle.opening.proofs.Scratch.{read-within, read-length}
+use Rattle.reading.proofs.Sizing.{sized-fits}
+use Rattle.reading.proofs.Scratch.{read-within, read-length}
 use Rattle.records.proofs.Tallying.{scratch-asked, read-addable, read-added}
 use borrow.Author.Needs.{needs}
 use Rattle.records.proofs.tally.add_array.Statement.{statement}

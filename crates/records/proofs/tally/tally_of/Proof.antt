@@ -1,9 +1,9 @@
 use Prim.Native.Nat.{_≤_, _-_}
 use mathlib.Core.Path.{_≡_}
 use lib.ListN.{length, getD}
-use Rattle.form.specs.Plan.{cellCount}
+use Rattle.weighted_arrays.specs.Plan.{cellCount}
 use Rattle.form.specs.Form.{decode}
-use Rattle.opening.specs.Contracts.{SumsTo}
+use Rattle.weighted_arrays.specs.Contracts.{SumsTo}
 use Rattle.records.proofs.Fitting.{arrays-end, array-place, array-scaled}
 use Rattle.records.proofs.Tallying.{added-none, array-addable, added-more, added-all}
 use borrow.Author.Needs.{needs}

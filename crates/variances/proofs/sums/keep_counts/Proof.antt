@@ -2,11 +2,11 @@ use Prim.Native.Nat.{_≤_, _-_}
 use mathlib.Core.Path.{_≡_, refl, sym, _∙_}
 use lib.ListN.{length}
 use native.Mathlib.Omega.{arith}
-use Rattle.form.specs.Plan.{cellCount}
+use Rattle.weighted_arrays.specs.Plan.{cellCount}
 use Rattle.form.specs.Form.{decode}
 use Rattle.variances.specs.Contracts.{Kept}
-use Rattle.form.proofs.Readings.{counts-length}
-use Rattle.form.proofs.Sizing.{arrays-are, cells-are, sized-arrays, sized-few, has-counts}
+use Rattle.reading.proofs.Readings.{counts-length}
+use Rattle.reading.proofs.Sizing.{arrays-are, cells-are, sized-arrays, sized-few, has-counts}
 use Rattle.variances.proofs.Rows.{kept-none, part-inside, part-length, kept-more, kept-all}
 use borrow.Author.Needs.{needs}
 use Rattle.variances.proofs.sums.keep_counts.Statement.{statement}

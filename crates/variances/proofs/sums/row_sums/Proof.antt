@@ -3,7 +3,7 @@ use mathlib.Core.Path.{_≡_}
 use lib.ListN.{length}
 use native.Mathlib.Omega.{arith}
 use Rattle.form.specs.Form.{decode}
-use Rattle.opening.specs.Contracts.{SumsTo}
+use Rattle.weighted_arrays.specs.Contracts.{SumsTo}
 use Rattle.variances.specs.Contracts.{factors}
 use Rattle.variances.proofs.Rows.{row-many, row-has, row-start, row-place, row-bytes, row-place-bytes, row-inside, row-end, row-addable, factor-fits, row-more, row-all}
 use borrow.Author.Needs.{needs}

@@ -1,0 +1,13 @@
+pub mod Firsts
+pub mod Orders
+pub mod Roundings
+pub mod Lines
+pub mod PlaceKinds
+pub mod Matrices
+pub mod FirstGrids
+pub mod GridLines
+pub mod GridRoundings
+pub mod QuotientLoops
+pub mod CountLoops
+pub mod Existence
+pub mod Small

@@ -1,0 +1,3 @@
+pub mod EntryLines
+pub mod Rounded
+mod Examples

@@ -1,0 +1,2 @@
+pub mod Weighting
+pub mod Belonging
