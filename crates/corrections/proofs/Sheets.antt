@@ -1,6 +1,6 @@
--- The check of a table of corrections, and what an accepted one is. Assumes nothing.
+-- What an accepted table of corrections is, and the ways through the call. Assumes nothing.
 use mathlib.Core.Path.{_≡_, sym, _∙_}
-use mathlib.Core.Bool.{Bool, true, false, not}
+use mathlib.Core.Bool.{true}
 use mathlib.Core.List.{List, [], _∷_}
 use mathlib.Core.Option.{some, none}
 use Prim.Native.Nat.{ℕ, _*_, _≤_, _<_}
@@ -12,33 +12,14 @@ use Rattle.refusals.specs.declared.Refusal.{Refusal}
 use Rattle.refusals.specs.declared.Refusal.the-variants.{LargeCell, Buffer}
 use Rattle.refusals.specs.Due.{Test, refuse, due}
 use Rattle.refusals.proofs.Dues.{due-first, due-second, first-none}
-use Rattle.table.specs.Check.{sizeTests, sizesOf, answered}
+use Rattle.table.specs.Check.{sizeTests, checkOfCells}
 use Rattle.table.specs.declared.Table.{Table}
 use Rattle.table.specs.declared.Checked.{Checked}
 use Rattle.table.specs.declared.Checked.the-variants.{Accepted, Refused}
-use Rattle.table.proofs.Checks.{Sized, sized, passed-sizes, sizes-refused, cell-refused, cells-accepted, answered-refused, answered-nothing, answered-sizes, last-passed}
+use Rattle.table.proofs.Checks.{Sized, passed-sizes, answered-refused, answered-nothing, answered-sizes, last-passed}
 use Rattle.base.specs.Buffers.{written}
 use Rattle.corrections.specs.Rounding.{firstRounding}
-use Rattle.corrections.specs.Call.{cellsWithin, tableTests, tableRefusal, roundRefusal}
-
--- the ways through the check
-module _ (r c d : ℕ) (g : List ℤ) {k : Checked} (e : k ≡ sizesOf r c d (length g)) where
-  pub bad-sizes : (x : Refusal) → k ≡ Refused x → Refused x ≡ answered r c d (tableRefusal r c d g)
-  unfolding tableRefusal
-  bad-sizes x h = sizes-refused r c d (length g) e (cellsWithin d g) x h
-
-  module _ {t : Table} (h : k ≡ Accepted t) where
-    pub denominator-small : d ≤ 65535
-    denominator-small = sized r c d (length g) e true h .denominator
-
-    module _ (z : Bool) (ze : z ≡ cellsWithin d g) where
-      pub bad-cell : not z ≡ true → Refused LargeCell ≡ answered r c d (tableRefusal r c d g)
-      unfolding tableRefusal
-      bad-cell l = cell-refused r c d (length g) e (cellsWithin d g) h (rw ze at l)
-
-      pub good-cells : not z ≡ false → Accepted t ≡ answered r c d (tableRefusal r c d g)
-      unfolding tableRefusal
-      good-cells l = cells-accepted r c d (length g) e (cellsWithin d g) h (rw ze at l)
+use Rattle.corrections.specs.Call.{cellsWithin, tableTests, tableRefusal, checkOf, roundRefusal}
 
 -- what an accepted table is
 module _ (r c d : ℕ) (g : List ℤ) (a : tableRefusal r c d g ≡ none) where
@@ -51,20 +32,22 @@ module _ (r c d : ℕ) (g : List ℤ) (a : tableRefusal r c d g ≡ none) where
   accepted-cells = last-passed (sizeTests r c d (length g)) LargeCell (cellsWithin d g) a
 
 -- the ways through the call
-module _ (r c d : ℕ) (g : List ℤ) (room : ℕ) {k : Checked} (e : k ≡ answered r c d (tableRefusal r c d g)) where
+module _ (r c d : ℕ) (g : List ℤ) (room : ℕ) {k : Checked} (e : k ≡ checkOf r c d g) where
   buffer : List Test
   buffer = refuse Buffer (ltb room (r * c)) ∷ []
 
   pub refused : {x : Refusal} → k ≡ Refused x → roundRefusal r c d g room ≡ some x
-  unfolding roundRefusal tableRefusal
+  unfolding roundRefusal checkOf checkOfCells
   refused {x} h = due-first (tableTests r c d g) _ x (answered-refused r c d (due (tableTests r c d g)) x (sym h ∙ e))
 
   module _ {t : Table} (h : k ≡ Accepted t) where
     nothing : tableRefusal r c d g ≡ none
+    unfolding checkOf checkOfCells tableRefusal
     nothing = answered-nothing r c d (tableRefusal r c d g) t (sym h ∙ e)
 
     sizes : t ≡ record { rows = r; columns = c; denominator = d }
-    sizes = answered-sizes r c d (tableRefusal r c d g) t (sym h ∙ e)
+    unfolding checkOf checkOfCells
+    sizes = answered-sizes r c d (due (tableTests r c d g)) t (sym h ∙ e)
 
     pub accepted : tableRefusal (t .rows) (t .columns) (t .denominator) g ≡ none
     accepted = rw sizes nothing

@@ -4,8 +4,7 @@ ghost use mathlib.Core.Bool.{_&&_};
 ghost use Prim.Native.Nat.{_^_, _<_, _≤_};
 ghost use lib.IntN.{negℤ};
 ghost use lib.Signed.{leZ};
-ghost use Rattle.table.specs.Check.{answered};
-ghost use Rattle.corrections.specs.Call.{cellWithin, cellsWithin, tableRefusal};
+ghost use Rattle.corrections.specs.Call.{cellWithin, cellsWithin, checkOf};
 ghost use Rattle.corrections.specs.Contracts.{Opposite};
 use base::convert::i32_to_i64;
 use base::convert::u64_to_i64;
@@ -62,7 +61,7 @@ fn cells_within(denominator: u32, cells: &[i32]) -> bool
 
 // The sizes of a table of corrections, or the lowest refusal that applies.
 pub fn check(rows: u32, columns: u32, denominator: u32, cells: &[i32]) -> Checked
-    ensures { λ r. ⌜ r ≡ answered rows columns denominator (tableRefusal rows columns denominator (now (cells .entry))) ⌝ }
+    ensures { λ r. ⌜ r ≡ checkOf rows columns denominator (now (cells .entry)) ⌝ }
 {
     let sized = sizes(rows, columns, denominator, cells.len());
     match sized {

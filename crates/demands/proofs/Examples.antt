@@ -8,7 +8,7 @@ use Rattle.base.specs.Lists.{tabulate, sum, sumTo, joinTo, least, all}
 use Rattle.refusals.specs.Due.{due, answerOf, after}
 use Rattle.table.specs.Table.{total, entryPlaces}
 use Rattle.table.specs.Whole.{whole, gap, roundsTo}
-use Rattle.table.specs.Check.{tableRefusal, checkOf, checkedNumber}
+use Rattle.table.specs.Check.{checkOfCells, checkOf, checkedNumber}
 use Rattle.cell_order.specs.Order.{nthRow, nthColumn, rank}
 use Rattle.first_rounding.specs.Order.{inOrder, arrayOf, firstOf}
 use Rattle.is_rounding.specs.Rounding.{isRounding}
@@ -29,16 +29,16 @@ use Rattle.demands.specs.Campaigns.{runs, saidOf}
 use Rattle.demands.specs.Slips.{SlipsShut, roundsOverCells, mended, drawsCountingAll}
 
 rows-hold : map (λ x. computed x (x .said)) examples ≡ map (λ x. x .said) examples
-unfolding planOf roundsFrom weightOf limitOf without tabulate sum least all total entryPlaces whole gap roundsTo nthRow nthColumn rank inOrder arrayOf firstOf isRounding firstRounding zipWith arrayFor checkOf tableRefusal due
+unfolding planOf roundsFrom weightOf limitOf without tabulate sum least all total entryPlaces whole gap roundsTo nthRow nthColumn rank inOrder arrayOf firstOf isRounding firstRounding zipWith arrayFor checkOf checkOfCells due
 rows-hold = refl
 
 module _ (d : ℕ) (some : 1 ≤ d) (h : d ≤ 65535) where
   taken : checkedNumber (checkOf 1 1 d ((1000 * d) ∷ [])) ≡ 0
-  unfolding checkOf tableRefusal due all
+  unfolding checkOf checkOfCells due all
   taken = simp (le-leb 1 d some, le-leb d 65535 h, le-leb (1000 * d) (1000 * d) (omega arith))
 
   above : checkedNumber (checkOf 1 1 d ((1000 * d + 1) ∷ [])) ≡ 4
-  unfolding checkOf tableRefusal due all
+  unfolding checkOf checkOfCells due all
   above = simp (le-leb 1 d some, le-leb d 65535 h, lt-leb (1000 * d + 1) (1000 * d) (omega arith))
 
 pub examples-hold : ExamplesHold

@@ -8,18 +8,19 @@ use native.Mathlib.Omega.{arith}
 use lib.ListN.{length, getD}
 use lib.Dec.{leb, eqb}
 use mir.Val.{Fits}
-use mir.Syntax.{w32}
+use mir.Syntax.{w32, w64}
 use borrow.Author.Count.{below-more}
-use borrow.Author.Tests.{lt-leb, le-leb, leb-true, eq-eqb, ne-eqb, eqb-true, not-true, not-false}
+use borrow.Author.Tests.{lt-leb, le-leb, leb-true, eqb-true, not-true, not-false}
 use Rattle.refusals.specs.declared.Refusal.{Refusal}
 use Rattle.refusals.specs.Due.{Test, refuse, due}
 use Rattle.refusals.proofs.Dues.{not-here, not-later, due-first, due-second, first-none}
-use Rattle.table.specs.Check.{upTo, cellsWithin, sizeTests, tableRefusal, answered, sizesOf, checkOf}
+use Rattle.table.specs.Check.{upTo, cellsWithin, sizeWithin, denominatorWithin, sizeTests, tableRefusal, answered, sizesOf, checkOfCells, checkOf}
 use Rattle.refusals.specs.declared.Refusal.the-variants.{Size, Denominator, CellCount, LargeCell}
 use Rattle.table.specs.declared.Table.{Table}
 use Rattle.table.specs.Contracts.{IsTable}
 use Rattle.table.specs.declared.Checked.{Checked}
 use Rattle.table.specs.declared.Checked.the-variants.{Accepted, Refused}
+use Rattle.table.proofs.Totals.{small-product}
 use Rattle.base.proofs.Lists.{all-intro, all-elim, all-fails, and-left, and-right}
 
 pub too-small : (bound n : ℕ) → n < 1 → false ≡ upTo bound n
@@ -64,40 +65,45 @@ within-not d g i p h = sym (all-fails _ g 0 i p (lt-leb _ _ h))
 pub passed : (bound n : ℕ) (b : Bool) → b ≡ upTo bound n → not b ≡ false → n ≤ bound
 passed bound n b e h = upTo-high bound n (sym e ∙ not-false b h)
 
+-- rows and columns that passed their test: the number of cells fits
+pub size-fits : (r c : ℕ) (b : Bool) → b ≡ sizeWithin r c → not b ≡ false → Fits w64 (r * c)
+size-fits r c b e h =
+    let good : sizeWithin r c ≡ true = sym e ∙ not-false b h in
+    small-product (upTo-high 12 r (and-left (upTo 12 r) (upTo 12 c) good)) (upTo-high 12 c (and-right (upTo 12 r) (upTo 12 c) good))
+
+-- a test that is two tests, by the first and then the second
+module _ (b : Bool) {a x : Bool} (e : x ≡ a) where
+  pub first-fails : not x ≡ true → false ≡ (a && b)
+  first-fails h = simp (sym e ∙ not-true x h)
+
+  pub second-decides : not x ≡ false → {y : Bool} → y ≡ b → y ≡ (a && b)
+  second-decides h i = i ∙ sym (simp (sym e ∙ not-false x h))
+
 -- the ways through the check of the sizes
-module _ (r c d n : ℕ) where
-  module _ (b : Bool) (be : b ≡ upTo 12 r) where
-    pub bad-rows : not b ≡ true → Refused Size ≡ sizesOf r c d n
+module _ (r c d n : ℕ) (b : Bool) (be : b ≡ sizeWithin r c) where
+  pub bad-size : not b ≡ true → Refused Size ≡ sizesOf r c d n
+  unfolding sizesOf due
+  bad-size h = simp (sym be ∙ not-true b h)
+
+  module _ (bh : not b ≡ false) (y : Bool) (ye : y ≡ denominatorWithin d) where
+    size-good : sizeWithin r c ≡ true
+    size-good = sym be ∙ not-false b bh
+
+    pub bad-denominator : not y ≡ true → Refused Denominator ≡ sizesOf r c d n
     unfolding sizesOf due
-    bad-rows h = simp (sym be ∙ not-true b h)
+    bad-denominator h = simp (size-good, sym ye ∙ not-true y h)
 
-    module _ (bh : not b ≡ false) (x : Bool) (xe : x ≡ upTo 12 c) where
-      rows-good : upTo 12 r ≡ true
-      rows-good = sym be ∙ not-false b bh
+    module _ (yh : not y ≡ false) (z : Bool) (ze : z ≡ eqb n (r * c)) where
+      denominator-good : denominatorWithin d ≡ true
+      denominator-good = sym ye ∙ not-false y yh
 
-      pub bad-columns : not x ≡ true → Refused Size ≡ sizesOf r c d n
+      pub bad-count : not z ≡ true → Refused CellCount ≡ sizesOf r c d n
       unfolding sizesOf due
-      bad-columns h = simp (rows-good, sym xe ∙ not-true x h)
+      bad-count h = simp (size-good, denominator-good, sym ze ∙ not-true z h)
 
-      module _ (xh : not x ≡ false) (y : Bool) (ye : y ≡ upTo 65535 d) where
-        columns-good : upTo 12 c ≡ true
-        columns-good = sym xe ∙ not-false x xh
-
-        pub bad-denominator : not y ≡ true → Refused Denominator ≡ sizesOf r c d n
-        unfolding sizesOf due
-        bad-denominator h = simp (rows-good, columns-good, sym ye ∙ not-true y h)
-
-        module _ (yh : not y ≡ false) where
-          denominator-good : upTo 65535 d ≡ true
-          denominator-good = sym ye ∙ not-false y yh
-
-          pub bad-count : (n ≡ r * c → ⊥) → Refused CellCount ≡ sizesOf r c d n
-          unfolding sizesOf due
-          bad-count h = simp (rows-good, columns-good, denominator-good, ne-eqb _ _ h)
-
-          pub good : n ≡ r * c → Accepted (record { rows = r; columns = c; denominator = d }) ≡ sizesOf r c d n
-          unfolding sizesOf due
-          good h = simp (rows-good, columns-good, denominator-good, eq-eqb _ _ h)
+      pub good : not z ≡ false → Accepted (record { rows = r; columns = c; denominator = d }) ≡ sizesOf r c d n
+      unfolding sizesOf due
+      good h = simp (size-good, denominator-good, sym ze ∙ not-false z h)
 
 -- what sizes that are refused nothing are
 pub record Sized (r c d n : ℕ) : Type 0 where
@@ -146,34 +152,33 @@ module _ (r c d : ℕ) (o : Option Refusal) where
   pub answered-sizes : (t : Table) → Accepted t ≡ answered r c d o → t ≡ record { rows = r; columns = c; denominator = d }
   answered-sizes t e = let n = answered-nothing t e in let f : Accepted t ≡ answered r c d none = rw n at e in cc
 
--- the cells of accepted sizes, of which z says whether they are within bounds
-module _ (r c d n : ℕ) {k : Checked} (e : k ≡ sizesOf r c d n) (z : Bool) where
-  abbrev all-due : Option Refusal
-  all-due = due (sizeTests r c d n ++ (refuse LargeCell (not z) ∷ []))
-
-  pub sizes-refused : (x : Refusal) → k ≡ Refused x → Refused x ≡ answered r c d all-due
-  unfolding sizesOf
-  sizes-refused x h = rw (due-first (sizeTests r c d n) (refuse LargeCell (not z) ∷ []) x (answered-refused r c d (due (sizeTests r c d n)) x (sym h ∙ e))) refl
+-- the ways through the check of n cells that are within their bounds or not, whatever kind of number a cell is
+module _ (r c d n : ℕ) {k : Checked} (e : k ≡ sizesOf r c d n) where
+  pub bad-sizes : (within : Bool) (x : Refusal) → k ≡ Refused x → Refused x ≡ checkOfCells r c d n within
+  unfolding sizesOf checkOfCells
+  bad-sizes within x h =
+      rw (due-first (sizeTests r c d n) (refuse LargeCell (not within) ∷ []) x (answered-refused r c d (due (sizeTests r c d n)) x (sym h ∙ e))) refl
 
   module _ {t : Table} (h : k ≡ Accepted t) where
     nothing : due (sizeTests r c d n) ≡ none
     unfolding sizesOf
     nothing = answered-nothing r c d (due (sizeTests r c d n)) t (sym h ∙ e)
 
-    pub sized : Sized r c d n
-    sized = passed-sizes r c d n nothing
+    pub denominator-small : d ≤ 65535
+    denominator-small = passed-sizes r c d n nothing .denominator
 
-    pub sizes-are : t ≡ record { rows = r; columns = c; denominator = d }
+    sizes-are : t ≡ record { rows = r; columns = c; denominator = d }
     unfolding sizesOf
     sizes-are = answered-sizes r c d (due (sizeTests r c d n)) t (sym h ∙ e)
 
-    pub cell-refused : not z ≡ true → Refused LargeCell ≡ answered r c d all-due
-    unfolding due
-    cell-refused l = rw (due-second (sizeTests r c d n) (refuse LargeCell (not z) ∷ []) nothing) (simp l)
+    module _ {within : Bool} (z : Bool) (ze : z ≡ within) where
+      pub bad-cell : not z ≡ true → Refused LargeCell ≡ checkOfCells r c d n within
+      unfolding checkOfCells due
+      bad-cell l = rw (due-second (sizeTests r c d n) (refuse LargeCell (not within) ∷ []) nothing) (simp (sym ze ∙ not-true z l))
 
-    pub cells-accepted : not z ≡ false → Accepted t ≡ answered r c d all-due
-    unfolding due
-    cells-accepted l = rw (sizes-are, due-second (sizeTests r c d n) (refuse LargeCell (not z) ∷ []) nothing) (simp l)
+      pub good-cells : not z ≡ false → Accepted t ≡ checkOfCells r c d n within
+      unfolding checkOfCells due
+      good-cells l = rw (sizes-are, due-second (sizeTests r c d n) (refuse LargeCell (not within) ∷ []) nothing) (simp (sym ze ∙ not-false z l))
 
 -- cells of such sizes that are within the bound are a table
 pub sized-table : {r c d : ℕ} {g : List ℕ} → Sized r c d (length g) → ((k : ℕ) → k < length g → getD g k 0 ≤ 1000 * d) → IsTable r c d g
@@ -187,25 +192,6 @@ sized-table s h = record {
 -- of one list of tests and one test more nothing is due: so not of that test
 pub last-passed : (l : List Test) (x : Refusal) (b : Bool) → due (l ++ (refuse x (not b) ∷ [])) ≡ none → b ≡ true
 last-passed l x b h = not-false b (not-here _ _ (sym (due-second l (refuse x (not b) ∷ []) (first-none l _ h)) ∙ h))
-
--- the ways through the check of a table
-module _ (r c d : ℕ) (g : List ℕ) {k : Checked} (e : k ≡ sizesOf r c d (length g)) where
-  pub bad-sizes : (x : Refusal) → k ≡ Refused x → Refused x ≡ checkOf r c d g
-  unfolding checkOf tableRefusal
-  bad-sizes x h = sizes-refused r c d (length g) e (cellsWithin d g) x h
-
-  module _ {t : Table} (h : k ≡ Accepted t) where
-    pub denominator-small : d ≤ 65535
-    denominator-small = sized r c d (length g) e true h .denominator
-
-    module _ (z : Bool) (ze : z ≡ cellsWithin d g) where
-      pub bad-cell : not z ≡ true → Refused LargeCell ≡ checkOf r c d g
-      unfolding checkOf tableRefusal
-      bad-cell l = cell-refused r c d (length g) e (cellsWithin d g) h (rw ze at l)
-
-      pub good-cells : not z ≡ false → Accepted t ≡ checkOf r c d g
-      unfolding checkOf tableRefusal
-      good-cells l = cells-accepted r c d (length g) e (cellsWithin d g) h (rw ze at l)
 
 -- what the answer of the check says
 module _ (r c d : ℕ) (g : List ℕ) where
@@ -222,11 +208,11 @@ module _ (r c d : ℕ) (g : List ℕ) where
     pub nothing-due : tableRefusal r c d g ≡ none
 
   pub accepted : (t : Table) → Accepted t ≡ checkOf r c d g → Taken t
-  unfolding checkOf
+  unfolding checkOf checkOfCells tableRefusal
   accepted t e =
       let nothing = answered-nothing r c d (tableRefusal r c d g) t e in
       record { table = passed-all nothing; sizes = answered-sizes r c d (tableRefusal r c d g) t e; nothing-due = nothing }
 
   pub refused : (x : Refusal) → Refused x ≡ checkOf r c d g → tableRefusal r c d g ≡ some x
-  unfolding checkOf
+  unfolding checkOf checkOfCells tableRefusal
   refused x e = answered-refused r c d (tableRefusal r c d g) x e

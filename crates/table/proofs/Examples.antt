@@ -5,11 +5,11 @@ use Rattle.base.specs.Lists.{tabulate, sum, all}
 use Rattle.refusals.specs.Due.{due}
 use Rattle.table.specs.Table.{entryPlaces, total, entries}
 use Rattle.table.specs.Whole.{whole, gap, roundsTo}
-use Rattle.table.specs.Check.{tableRefusal, checkOf}
+use Rattle.table.specs.Check.{checkOfCells, checkOf}
 use Rattle.table.specs.Examples.{cases, checked, rounded, roundedOf}
 
 pub checks-hold : map checked cases ≡ map (λ x. x .number) cases
-unfolding checkOf tableRefusal due all
+unfolding checkOf checkOfCells due all
 checks-hold = refl
 
 pub entries-hold : entries 2 3 (1 ∷ 2 ∷ 3 ∷ 40 ∷ 50 ∷ 60 ∷ []) ≡ 1 ∷ 2 ∷ 3 ∷ 40 ∷ 50 ∷ 60 ∷ 6 ∷ 150 ∷ 41 ∷ 52 ∷ 63 ∷ 156 ∷ []

@@ -22,17 +22,34 @@ upTo bound n = leb 1 n && leb n bound
 abbrev pub cellsWithin : ℕ → List ℕ → Bool
 cellsWithin d g = all (λ x. leb x (maxExpected * d)) g
 
--- The first refusals of every call that takes a table of n cells: 1, r or c not from 1 to 12; 2, D not from 1 to 65,535; 3, the cells are not r·c many.
-abbrev pub sizeTests : ℕ → ℕ → ℕ → ℕ → List Test
-sizeTests r c d n =
-    refuse Size (not (upTo maxRows r && upTo maxColumns c))
-    ∷ refuse Denominator (not (upTo maxDenominator d))
-    ∷ refuse CellCount (not (eqb n (r * c)))
-    ∷ []
+-- The tests of sizes, each by itself, of which a call composes its own list: 1, r or c not from 1 to 12; 2, D not from 1 to 65,535; 3, the cells are not as many
+-- as they have to be.
+abbrev pub sizeWithin : ℕ → ℕ → Bool
+sizeWithin r c = upTo maxRows r && upTo maxColumns c
 
--- and 4, a cell above 1000·D
+abbrev pub denominatorWithin : ℕ → Bool
+denominatorWithin d = upTo maxDenominator d
+
+abbrev pub sizeTest : ℕ → ℕ → Test
+sizeTest r c = refuse Size (not (sizeWithin r c))
+
+abbrev pub denominatorTest : ℕ → Test
+denominatorTest d = refuse Denominator (not (denominatorWithin d))
+
+abbrev pub countTest : ℕ → ℕ → Test
+countTest count cells = refuse CellCount (not (eqb count cells))
+
+-- the first refusals of every call that takes a table of n cells, which are to be r·c many
+abbrev pub sizeTests : ℕ → ℕ → ℕ → ℕ → List Test
+sizeTests r c d n = sizeTest r c ∷ denominatorTest d ∷ countTest n (r * c) ∷ []
+
+-- and 4, a cell beyond the bounds
+abbrev pub cellTests : ℕ → ℕ → ℕ → ℕ → Bool → List Test
+cellTests r c d n within = sizeTests r c d n ++ (refuse LargeCell (not within) ∷ [])
+
+-- the refusals of a table: 1 to 3, and 4, a cell above 1000·D
 abbrev pub tableTests : ℕ → ℕ → ℕ → List ℕ → List Test
-tableTests r c d g = sizeTests r c d (length g) ++ (refuse LargeCell (not (cellsWithin d g)) ∷ [])
+tableTests r c d g = cellTests r c d (length g) (cellsWithin d g)
 
 unfoldable pub tableRefusal : ℕ → ℕ → ℕ → List ℕ → Option Refusal
 tableRefusal r c d g = due (tableTests r c d g)
@@ -41,12 +58,16 @@ tableRefusal r c d g = due (tableTests r c d g)
 abbrev pub answered : ℕ → ℕ → ℕ → Option Refusal → Checked
 answered r c d x = refusedOr Refused (Accepted (record { rows = r; columns = c; denominator = d })) x
 
--- the sizes are accepted if none of 1 to 3 applies; a table, if none of 1 to 4 applies to it
+-- the sizes are accepted if none of 1 to 3 applies; n cells, of which it is told whether they are within their bounds, if none of 1 to 4 does
 unfoldable pub sizesOf : ℕ → ℕ → ℕ → ℕ → Checked
 sizesOf r c d n = answered r c d (due (sizeTests r c d n))
 
+unfoldable pub checkOfCells : ℕ → ℕ → ℕ → ℕ → Bool → Checked
+checkOfCells r c d n within = answered r c d (due (cellTests r c d n within))
+
+-- and so a table
 unfoldable pub checkOf : ℕ → ℕ → ℕ → List ℕ → Checked
-checkOf r c d g = answered r c d (tableRefusal r c d g)
+checkOf r c d g = checkOfCells r c d (length g) (cellsWithin d g)
 
 -- the number that each answer of the check stands for: 0 for an accepted table, else the refusal's
 abbrev pub checkedNumber : Checked → ℕ

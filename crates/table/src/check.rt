@@ -1,7 +1,8 @@
 // The check of a table's numbers: refusals 1 to 4.
 ghost use mathlib.Core.Path.{_≡_};
 ghost use Prim.Native.Nat.{_≤_};
-ghost use Rattle.table.specs.Check.{upTo, sizesOf, checkOf, cellsWithin};
+ghost use lib.Dec.{eqb};
+ghost use Rattle.table.specs.Check.{upTo, sizeWithin, denominatorWithin, sizesOf, checkOf, cellsWithin};
 use crate::Checked;
 use crate::Refusal;
 use crate::Table;
@@ -32,20 +33,41 @@ pub fn cells_within(denominator: u32, cells: &[u32]) -> bool
     true
 }
 
+// Whether rows and columns are within their bounds: else 1.
+pub fn size_within(rows: u32, columns: u32) -> bool
+    ensures { λ r. ⌜ r ≡ sizeWithin rows columns ⌝ }
+{
+    if !up_to(Table::MAX_ROWS, rows) {
+        return false;
+    }
+    up_to(Table::MAX_COLUMNS, columns)
+}
+
+// Whether the denominator is within its bounds: else 2.
+pub fn denominator_within(denominator: u32) -> bool
+    ensures { λ r. ⌜ r ≡ denominatorWithin denominator ⌝ }
+{
+    up_to(Table::MAX_DENOMINATOR, denominator)
+}
+
+// Whether there are as many cells as there have to be: else 3.
+pub fn count_is(count: usize, cells: usize) -> bool
+    ensures { λ r. ⌜ r ≡ eqb count cells ⌝ }
+{
+    count == cells
+}
+
 // The sizes of a table of `count` cells, or the lowest of 1 to 3 that applies.
 pub fn sizes(rows: u32, columns: u32, denominator: u32, count: usize) -> Checked
     ensures { λ r. ⌜ r ≡ sizesOf rows columns denominator count ⌝ }
 {
-    if !up_to(Table::MAX_ROWS, rows) {
+    if !size_within(rows, columns) {
         return Checked::Refused(Refusal::Size);
     }
-    if !up_to(Table::MAX_COLUMNS, columns) {
-        return Checked::Refused(Refusal::Size);
-    }
-    if !up_to(Table::MAX_DENOMINATOR, denominator) {
+    if !denominator_within(denominator) {
         return Checked::Refused(Refusal::Denominator);
     }
-    if count != (rows as usize) * (columns as usize) {
+    if !count_is(count, (rows as usize) * (columns as usize)) {
         return Checked::Refused(Refusal::CellCount);
     }
     Checked::Accepted(Table {
