@@ -1,3 +1,4 @@
 mod Finds
+mod Walks
 mod Viewing
 pub mod Examples
