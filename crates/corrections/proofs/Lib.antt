@@ -1,6 +1,5 @@
 pub mod Apart
 pub mod Moved
-pub mod Bounds
 pub mod Sheets
 pub mod Counting
 pub mod Rounded

@@ -23,7 +23,8 @@ use Rattle.rounding.specs.Call as natural-call
 use Rattle.first_rounding.proofs.Existence.{first-exists}
 use Rattle.first_rounding.proofs.Roundings.{rounding-length}
 use Rattle.corrections.specs.Rounding.{firstRounding}
-use Rattle.corrections.specs.Call.{cellWithin, roundRefusal}
+use Rattle.correction_check.specs.Check.{cellWithin}
+use Rattle.corrections.specs.Call.{roundRefusal}
 use Rattle.corrections.specs.Same.{replyOf, naturalReply}
 use Rattle.corrections.proofs.Moved.{moved-at, moved-length, Parted, first-moved}
 

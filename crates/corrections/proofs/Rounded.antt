@@ -36,10 +36,10 @@ use Rattle.rounding.specs.Contracts.{TableReady}
 use Rattle.first_rounding.proofs.Existence.{first-exists}
 use Rattle.first_rounding.proofs.Roundings.{rounding-length}
 use Rattle.corrections.specs.Rounding.{IsFirst, firstRounding}
-use Rattle.corrections.specs.Call.{cellWithin, tableRefusal}
+use Rattle.correction_check.specs.Check.{cellWithin, tableRefusal}
 use Rattle.corrections.specs.Contracts.{rests, RestsReady, countOf, countsOf, CountsReady}
 use Rattle.corrections.proofs.Moved.{plus, moved, moved-at, moved-length, Parted, first-moved, is-first}
-use Rattle.corrections.proofs.Sheets.{accepted-sizes, accepted-cells}
+use Rattle.correction_check.proofs.Accepted.{accepted-sizes, accepted-cells}
 
 -- a cell within the bounds, over d rounded down and at most one more, fits 16 bits
 module _ (d : ℕ) (h : 0 < d) where

@@ -1,35 +1,25 @@
--- What an accepted table of corrections is, and the ways through the call. Assumes nothing.
+-- The ways through the call. Assumes nothing.
 use mathlib.Core.Path.{_≡_, sym, _∙_}
-use mathlib.Core.Bool.{true}
 use mathlib.Core.List.{List, [], _∷_}
 use mathlib.Core.Option.{some, none}
 use Prim.Native.Nat.{ℕ, _*_, _≤_, _<_}
 use lib.Dec.{ltb}
 use lib.IntN.{ℤ}
-use lib.ListN.{length}
 use borrow.Author.Tests.{lt-ltb, le-ltb}
 use Rattle.refusals.specs.declared.Refusal.{Refusal}
-use Rattle.refusals.specs.declared.Refusal.the-variants.{LargeCell, Buffer}
+use Rattle.refusals.specs.declared.Refusal.the-variants.{Buffer}
 use Rattle.refusals.specs.Due.{Test, refuse, due}
-use Rattle.refusals.proofs.Dues.{due-first, due-second, first-none}
-use Rattle.table.specs.Check.{sizeTests, checkOfCells}
+use Rattle.refusals.proofs.Dues.{due-first, due-second}
+use Rattle.table.specs.Check.{checkOfCells}
 use Rattle.table.specs.declared.Table.{Table}
 use Rattle.table.specs.declared.Checked.{Checked}
 use Rattle.table.specs.declared.Checked.the-variants.{Accepted, Refused}
-use Rattle.table.proofs.Checks.{Sized, passed-sizes, answered-refused, answered-nothing, answered-sizes, last-passed}
+use Rattle.table.proofs.Checks.{answered-refused, answered-nothing, answered-sizes}
 use Rattle.base.specs.Buffers.{written}
 use Rattle.corrections.specs.Rounding.{firstRounding}
-use Rattle.corrections.specs.Call.{cellsWithin, tableTests, tableRefusal, checkOf, roundRefusal}
-
--- what an accepted table is
-module _ (r c d : ℕ) (g : List ℤ) (a : tableRefusal r c d g ≡ none) where
-  pub accepted-sizes : Sized r c d (length g)
-  unfolding tableRefusal
-  accepted-sizes = passed-sizes r c d (length g) (first-none (sizeTests r c d (length g)) _ a)
-
-  pub accepted-cells : cellsWithin d g ≡ true
-  unfolding tableRefusal
-  accepted-cells = last-passed (sizeTests r c d (length g)) LargeCell (cellsWithin d g) a
+use Rattle.correction_check.specs.Check.{tableTests, tableRefusal, checkOf}
+use Rattle.correction_check.proofs.Accepted.{accepted-sizes}
+use Rattle.corrections.specs.Call.{roundRefusal}
 
 -- the ways through the call
 module _ (r c d : ℕ) (g : List ℤ) (room : ℕ) {k : Checked} (e : k ≡ checkOf r c d g) where

@@ -3,18 +3,14 @@ use mathlib.Core.Path.{_≡_}
 use mathlib.Core.List.{List, map}
 use mathlib.Core.Option.{none}
 use Prim.Native.Nat.{ℕ, _*_, _<_, _≤_}
-use lib.IntN.{ℤ, pos, negℤ, _+ℤ_}
+use lib.IntN.{ℤ, pos, _+ℤ_}
 use lib.ListN.{length, getD}
 use mir.Syntax.{w16, w64}
 use mir.Val.{SFits}
 use Rattle.base.specs.Lists.{tabulate}
 use Rattle.table.specs.Table.{maxDenominator}
 use Rattle.division.specs.Division.{down, rest}
-use Rattle.corrections.specs.Call.{tableRefusal}
-
--- a number whose opposite fits 64 bits
-abbrev pub Opposite : ℤ → Type 0
-Opposite z = SFits w64 (negℤ z)
+use Rattle.correction_check.specs.Check.{tableRefusal}
 
 -- two numbers whose sum fits 64 bits
 abbrev pub Summable : ℤ → ℤ → Type 0

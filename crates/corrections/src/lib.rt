@@ -8,20 +8,20 @@ ghost use lib.ListN.{length};
 ghost use Rattle.base.specs.Buffers.{written};
 ghost use Rattle.refusals.specs.Due.{Answers};
 ghost use Rattle.corrections.specs.Rounding.{IsFirst, firstRounding};
-ghost use Rattle.corrections.specs.Call.{tableRefusal, roundRefusal};
+ghost use Rattle.correction_check.specs.Check.{tableRefusal};
+ghost use Rattle.corrections.specs.Call.{roundRefusal};
 ghost use Rattle.corrections.specs.Same.{replyOf, naturalReply};
 ghost use Rattle.corrections.specs.Examples.{rounded, roundedOf, candidates, roundsSheet, calls, outcome, said};
 ghost use Rattle.corrections.specs.Contracts.{SheetReady};
-use crate::cells::check;
 use crate::counts::counts;
 use crate::counts::remainders;
+use correction_check::check;
 use refusals::Answer;
 use refusals::Refusal;
 use rounding::write_rounding;
 use table::Checked;
 use table::Table;
 
-mod cells;
 mod counts;
 
 // Writes the first controlled rounding of an accepted table of corrections. Of each cell a whole multiple of the denominator is set aside; what is left over is a

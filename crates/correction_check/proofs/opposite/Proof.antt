@@ -1,7 +1,7 @@
-use Rattle.corrections.proofs.Bounds.{opposite-fits, opposite-is}
+use Rattle.correction_check.proofs.Bounds.{opposite-fits, opposite-is}
 use borrow.Author.Needs.{needs}
-use Rattle.corrections.proofs.cells.opposite.Statement.{statement}
-use Rattle.corrections.proofs.cells.opposite.Tie as tie
+use Rattle.correction_check.proofs.opposite.Statement.{statement}
+use Rattle.correction_check.proofs.opposite.Tie as tie
 
 sub-result : tie.Need-sub-result
 sub-result c = search (needs, opposite-fits)

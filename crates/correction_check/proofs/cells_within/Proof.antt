@@ -1,10 +1,10 @@
 use Prim.Native.Nat.{_≤_, _*_, _-_}
 use mathlib.Core.Path.{_≡_}
 use lib.ListN.{length}
-use Rattle.corrections.proofs.Bounds.{Within, within-none, within-more, within-all, within-not, bound-fits, bound-small}
+use Rattle.correction_check.proofs.Bounds.{Within, within-none, within-more, within-all, within-not, bound-fits, bound-small}
 use borrow.Author.Needs.{needs}
-use Rattle.corrections.proofs.cells.cells_within.Statement.{statement}
-use Rattle.corrections.proofs.cells.cells_within.Tie as tie
+use Rattle.correction_check.proofs.cells_within.Statement.{statement}
+use Rattle.correction_check.proofs.cells_within.Tie as tie
 
 abbrev Inv-loop : tie.InvT-loop
 Inv-loop denominator cells bound i₀ i = (i ≤ length cells) × (bound ≡ 1000 * denominator) × Within denominator cells i

@@ -1,11 +1,11 @@
-// The check of a table of corrections: refusals 1 to 4.
+// The check of a table of corrections, whose cells may be below zero: refusals 1 to 4.
 ghost use mathlib.Core.Path.{_≡_};
 ghost use mathlib.Core.Bool.{_&&_};
 ghost use Prim.Native.Nat.{_^_, _<_, _≤_};
 ghost use lib.IntN.{negℤ};
 ghost use lib.Signed.{leZ};
-ghost use Rattle.corrections.specs.Call.{cellWithin, cellsWithin, checkOf};
-ghost use Rattle.corrections.specs.Contracts.{Opposite};
+ghost use Rattle.correction_check.specs.Check.{cellWithin, cellsWithin, checkOf};
+ghost use Rattle.correction_check.specs.Contracts.{Opposite};
 use base::convert::i32_to_i64;
 use base::convert::u64_to_i64;
 use base::wide;

@@ -1,7 +1,7 @@
-use Rattle.corrections.proofs.Bounds.{at-least, below}
+use Rattle.correction_check.proofs.Bounds.{at-least, below}
 use borrow.Author.Needs.{needs}
-use Rattle.corrections.proofs.cells.between.Statement.{statement}
-use Rattle.corrections.proofs.cells.between.Tie as tie
+use Rattle.correction_check.proofs.between.Statement.{statement}
+use Rattle.correction_check.proofs.between.Tie as tie
 
 returns : tie.Need-returns
 returns c = search (needs, at-least)

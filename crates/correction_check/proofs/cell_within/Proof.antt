@@ -1,7 +1,7 @@
-use Rattle.corrections.proofs.Bounds.{has-opposite, within-is}
+use Rattle.correction_check.proofs.Bounds.{has-opposite, within-is}
 use borrow.Author.Needs.{needs}
-use Rattle.corrections.proofs.cells.cell_within.Statement.{statement}
-use Rattle.corrections.proofs.cells.cell_within.Tie as tie
+use Rattle.correction_check.proofs.cell_within.Statement.{statement}
+use Rattle.correction_check.proofs.cell_within.Tie as tie
 
 opposite-requires : tie.Need-opposite-requires
 opposite-requires c κs = search (needs, has-opposite)

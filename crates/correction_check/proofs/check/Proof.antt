@@ -1,8 +1,8 @@
-use Rattle.corrections.specs.Call.{checkOf}
+use Rattle.correction_check.specs.Check.{checkOf}
 use Rattle.table.proofs.Checks.{bad-sizes, denominator-small, bad-cell, good-cells}
 use borrow.Author.Needs.{needs}
-use Rattle.corrections.proofs.cells.check.Statement.{statement}
-use Rattle.corrections.proofs.cells.check.Tie as tie
+use Rattle.correction_check.proofs.check.Statement.{statement}
+use Rattle.correction_check.proofs.check.Tie as tie
 
 cells-within-requires : tie.Need-cells-within-requires
 cells-within-requires c κs = search (needs, denominator-small)

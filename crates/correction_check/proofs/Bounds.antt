@@ -14,7 +14,7 @@ use mir.Val.{Fits, SFits, toZ, ofZ}
 use mir.Facts.{toZ-ofZ}
 use Rattle.base.proofs.Signs.{there, wider-is}
 use Rattle.base.proofs.Lists.{all-intro, all-fails}
-use Rattle.corrections.specs.Call.{cellWithin, cellsWithin}
+use Rattle.correction_check.specs.Check.{cellWithin, cellsWithin}
 
 -- the opposite of a number
 module _ {z : ℤ} (f : SFits w64 z) (h : SFits w64 (negℤ z)) where
