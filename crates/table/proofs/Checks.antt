@@ -61,10 +61,6 @@ module _ {d : ℕ} {g : List ℕ} {i : ℕ} (w : Within d g i) where
 pub within-not : (d : ℕ) (g : List ℕ) (i : ℕ) → i < length g → 1000 * d < getD g i 0 → false ≡ cellsWithin d g
 within-not d g i p h = sym (all-fails _ g 0 i p (lt-leb _ _ h))
 
--- what a test that was passed says
-pub passed : (bound n : ℕ) (b : Bool) → b ≡ upTo bound n → not b ≡ false → n ≤ bound
-passed bound n b e h = upTo-high bound n (sym e ∙ not-false b h)
-
 -- rows and columns that passed their test: the number of cells fits
 pub size-fits : (r c : ℕ) (b : Bool) → b ≡ sizeWithin r c → not b ≡ false → Fits w64 (r * c)
 size-fits r c b e h =
