@@ -8,8 +8,7 @@ use native.Mathlib.Decide.{decLt}
 use native.Mathlib.Omega.{arith}
 use Rattle.base.specs.Lists.{sum, sumTo}
 use Rattle.base.proofs.Sums.{sum-add-range}
-use Rattle.weighted_arrays.specs.Plan.{Weighted, arrayAt}
-use Rattle.weighted_arrays.specs.Contracts.{weightsBefore, Belongs}
+use Rattle.weighted_arrays.specs.Plan.{Weighted, arrayAt, weightsBefore, Belongs}
 use Rattle.weighted_arrays.proofs.Belonging.{before-front, array-for}
 use Rattle.demands.specs.Numbers.{Belonging}
 

@@ -2,8 +2,7 @@
 use mathlib.Core.Path.{_≡_}
 use mathlib.Core.List.{List}
 use Prim.Native.Nat.{ℕ}
-use Rattle.weighted_arrays.specs.Plan.{Weighted, arrayAt, arrayFor}
-use Rattle.weighted_arrays.specs.Contracts.{Belongs}
+use Rattle.weighted_arrays.specs.Plan.{Weighted, arrayAt, arrayFor, Belongs}
 
 -- draw number d belongs to the array whose stretch of weights it lies in: there is one, only one, and its counts are those that a draw of d gives
 pub record Belonging (l : List Weighted) (d : ℕ) : Type 0 where

@@ -17,14 +17,14 @@ use Rattle.refusals.specs.declared.Refusal.the-variants.{Buffer, Number}
 use Rattle.refusals.specs.Due.{refuse, due}
 use Rattle.refusals.proofs.Dues.{due-first, due-second}
 use Rattle.form.specs.declared.Sizes.{Sizes}
-use Rattle.weighted_arrays.specs.Plan.{Weighted, arrayAt}
+use Rattle.weighted_arrays.specs.Plan.{Weighted, arrayAt, weightsBefore, Belongs}
 use Rattle.form.specs.Form.{decode}
 use Rattle.reading.specs.Contracts.{HasCounts, Sized}
 use Rattle.opening.specs.declared.Opened.the-variants as opened
 use Rattle.opening.specs.Open.{openTests, openRefusal, openAnswer}
 use Rattle.drawing.specs.Draw.{drawRefusal, drawnArray}
 use Rattle.drawing.specs.Contracts.{Drawing, Drawable}
-use Rattle.weighted_arrays.specs.Contracts.{weightAt, weightsBefore, Belongs}
+use Rattle.weighted_arrays.specs.Contracts.{weightAt}
 use Rattle.reading.proofs.Sizing.{arrays-are, denominator-is, has-counts}
 use Rattle.weighted_arrays.proofs.Belonging.{array-for}
 use Rattle.opening.proofs.Opening.{is-open, is-refused, opened-sized}

@@ -3,7 +3,7 @@ use mathlib.Core.Path.{_≡_}
 use mathlib.Core.List.{List}
 use Prim.Native.Nat.{ℕ, _*_, _<_, _≤_}
 use lib.ListN.{length}
-use Rattle.weighted_arrays.specs.Contracts.{weightsBefore}
+use Rattle.weighted_arrays.specs.Plan.{weightsBefore}
 use Rattle.form.specs.declared.Sizes.{Sizes}
 use Rattle.form.specs.Form.{decode}
 use Rattle.reading.specs.Contracts.{Sized}

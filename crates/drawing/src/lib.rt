@@ -7,7 +7,7 @@ ghost use Rattle.refusals.specs.Due.{Answers};
 ghost use Rattle.form.specs.Form.{decode};
 ghost use Rattle.drawing.specs.Draw.{drawRefusal, drawnArray};
 ghost use Rattle.drawing.specs.Contracts.{Drawing, Drawable};
-ghost use Rattle.weighted_arrays.specs.Contracts.{Belongs};
+ghost use Rattle.weighted_arrays.specs.Plan.{Belongs};
 ghost use Rattle.drawing.specs.Examples.{drawCases, drawn, said};
 use form::Sizes;
 use opening::Opened;

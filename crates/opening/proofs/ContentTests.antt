@@ -21,13 +21,13 @@ use Rattle.table.specs.Table.{entryPlaces}
 use Rattle.table.specs.Check.{cellsWithin}
 use Rattle.table.specs.Contracts.{Shape}
 use Rattle.form.specs.declared.Sizes.{Sizes}
-use Rattle.weighted_arrays.specs.Plan.{Weighted, Plan, arrayAt, cellCount}
+use Rattle.weighted_arrays.specs.Plan.{Weighted, Plan, arrayAt, cellCount, weightsBefore}
 use Rattle.form.specs.Form.{decode}
 use Rattle.reading.proofs.Readings.{counts-length, cells-length}
 use Rattle.is_rounding.proofs.Rounded.{between-rounds}
 use Rattle.opening.specs.Open.{held, weighted, consistent}
 use Rattle.is_rounding.specs.Contracts.{Bounds, entriesBetween, Counts}
-use Rattle.weighted_arrays.specs.Contracts.{Addable, Increased, cellsMet, weightsBefore, weightAt, SumsTo}
+use Rattle.weighted_arrays.specs.Contracts.{Addable, Increased, cellsMet, weightAt, SumsTo}
 use Rattle.reading.specs.Contracts.{Sized}
 use Rattle.opening.specs.Contracts.{weightsRight, arraysRight, ArraysTo, ArrayTested, ArraysTested, TableOf}
 use Rattle.reading.proofs.Sizing.{arrays-are, cells-are, rows-are, columns-are, denominator-is, sized-few, sized-arrays, sized-some, sized-denominator, sized-shape}

@@ -19,11 +19,11 @@ use Rattle.base.proofs.SumLoops.{Summed, sum-more, summed-more, summed-all}
 use Rattle.base.proofs.Filling.{filled-none, front-more, front-all}
 use Rattle.base.proofs.Buffers.{written-at}
 use Rattle.form.specs.declared.Sizes.{Sizes}
-use Rattle.weighted_arrays.specs.Plan.{Weighted, arrayAt, cellCount, arrayFor}
+use Rattle.weighted_arrays.specs.Plan.{Weighted, arrayAt, cellCount, arrayFor, weightsBefore}
 use Rattle.form.specs.Form.{decode}
 use Rattle.reading.specs.Contracts.{HasArray, Sized}
 use Rattle.reading.proofs.Sizing.{arrays-are, denominator-is, sized-arrays, sized-denominator}
-use Rattle.weighted_arrays.specs.Contracts.{weightsBefore, weightAt, factored}
+use Rattle.weighted_arrays.specs.Contracts.{weightAt, factored}
 use Rattle.weighted_arrays.proofs.Belonging.{array-for}
 use Rattle.opening.proofs.Opening.{is-open, opened-sized}
 use Rattle.opening.proofs.Opens.{weights-add-up}

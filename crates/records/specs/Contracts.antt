@@ -9,11 +9,11 @@ use Rattle.base.specs.Lists.{tabulate, every}
 use Rattle.base.specs.Buffers.{written}
 use Rattle.table.specs.Table.{maxCells, maxArrays, maxDenominator}
 use Rattle.form.specs.declared.Sizes.{Sizes}
-use Rattle.weighted_arrays.specs.Plan.{Weighted, Plan, arrayAt, cellCount}
+use Rattle.weighted_arrays.specs.Plan.{Weighted, Plan, arrayAt, cellCount, weightsBefore}
 use Rattle.form.specs.Form.{decode}
 use Rattle.opening.specs.declared.Opened.the-variants as opened
 use Rattle.opening.specs.Open.{openAnswer}
-use Rattle.weighted_arrays.specs.Contracts.{maxProduct, Addable, weightsBefore, weightAt, factored, SumsTo}
+use Rattle.weighted_arrays.specs.Contracts.{maxProduct, Addable, weightAt, factored, SumsTo}
 use Rattle.reading.specs.Contracts.{Sized}
 use Rattle.bits.specs.Bits.{bitBytes}
 use Rattle.bits.specs.Contracts.{bitsSet}

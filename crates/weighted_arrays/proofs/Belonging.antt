@@ -8,8 +8,7 @@ use lib.ListN.{length}
 use borrow.Author.Tests.{lt-ltb, le-ltb}
 use Rattle.base.specs.Lists.{sumTo}
 use Rattle.base.proofs.Sums.{sum-front}
-use Rattle.weighted_arrays.specs.Plan.{Weighted, arrayAt, arrayFor}
-use Rattle.weighted_arrays.specs.Contracts.{weightsBefore}
+use Rattle.weighted_arrays.specs.Plan.{Weighted, arrayAt, arrayFor, weightsBefore}
 
 pub before-front : (a : Weighted) (l : List Weighted) (k : ℕ) → weightsBefore (a ∷ l) (suc k) ≡ a .weight + weightsBefore l k
 before-front a l k = sum-front k (λ j. arrayAt (a ∷ l) j .weight)

@@ -7,7 +7,7 @@ use lib.ListN.{length, getD}
 use lib.Dec.{eqb}
 use Rattle.base.specs.Lists.{sumTo, every}
 use Rattle.base.specs.Contracts.{Filled}
-use Rattle.table.specs.Table.{maxCells}
+use Rattle.table.specs.Table.{maxArrays, maxCells}
 use Rattle.weighted_arrays.specs.Plan.{Weighted, arrayAt}
 
 -- the largest product of a number of 32 bits and a count
@@ -18,7 +18,7 @@ maxProduct = 281470681743360
 pub record Addable (counts sums : List ℕ) : Type 0 where
   pub room : length counts ≤ maxCells
   pub sums-length : length sums ≡ maxCells
-  pub small : (i : ℕ) → i < length counts → getD sums i 0 ≤ 170 * maxProduct
+  pub small : (i : ℕ) → i < length counts → getD sums i 0 ≤ maxArrays * maxProduct
 
 -- each count times the factor is added to its sum, and the other sums stay
 pub record Increased (factor : ℕ) (counts old new : List ℕ) : Type 0 where
@@ -28,10 +28,6 @@ pub record Increased (factor : ℕ) (counts old new : List ℕ) : Type 0 where
 -- each cell is its sum
 unfoldable pub cellsMet : List ℕ → List ℕ → Bool
 cellsMet cells sums = every (length cells) (λ i. eqb (getD sums i 0) (getD cells i 0))
-
--- the weights before array k, counted from 0, added up
-abbrev pub weightsBefore : List Weighted → ℕ → ℕ
-weightsBefore l k = sumTo k (λ j. arrayAt l j .weight)
 
 -- a factor for each array: its weight, or how many of its numbers are taken. Sums has for each of n cells the counts of the first k arrays times their factors, added up
 abbrev pub factored : (ℕ → ℕ) → List Weighted → ℕ → ℕ → ℕ
@@ -45,9 +41,3 @@ pub record SumsTo (f : ℕ → ℕ) (l : List Weighted) (n k : ℕ) (sums : List
 -- the weight of each array
 abbrev pub weightAt : List Weighted → ℕ → ℕ
 weightAt l j = arrayAt l j .weight
-
--- draw number d belongs to array k, counted from 0: the weights before k add up to at most d, and with k to more than d
-pub record Belongs (l : List Weighted) (d k : ℕ) : Type 0 where
-  pub there : k < length l
-  pub before : weightsBefore l k ≤ d
-  pub with : d < weightsBefore l (k + 1)
