@@ -18,6 +18,7 @@ use campaign_start::Step;
 use campaign_start::room::open_for;
 use drawing::write_array;
 use opening::Opened;
+use records::MAX_ROUNDS;
 use records::fit::fits;
 use refusals::Answer;
 use refusals::Refusal;
@@ -52,7 +53,7 @@ fn draw_opened(
             if !fits(plan, s, taken, rounds, bits, tally) {
                 return Opened::Refused(Refusal::Record);
             }
-            if 1000 <= rounds {
+            if MAX_ROUNDS <= rounds {
                 return Opened::Refused(Refusal::Rounds);
             }
             if bit(bits, number as usize) != 0 {

@@ -26,9 +26,6 @@ pub enum Planned {
     Refused(Refusal),
 }
 
-// How many weights the largest plan has.
-const WEIGHTS: usize = 170;
-
 // How many counts the largest plan has: 170 arrays of 144 cells.
 const COUNTS: usize = 24480;
 
@@ -39,7 +36,7 @@ fn plan_table(t: Table, cells: &[u32], plan: &mut [u8]) -> Planned
 {
     let rows = t.rows;
     let columns = t.columns;
-    let mut weights = [0u32; WEIGHTS];
+    let mut weights = [0u32; Table::MAX_ARRAYS as usize];
     let mut counts = [0u16; COUNTS];
     let arrays = gather(t, cells, &mut weights, &mut counts);
     let length = plan_length(rows, columns, arrays);

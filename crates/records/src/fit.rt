@@ -5,6 +5,7 @@ ghost use Rattle.base.specs.Lists.{sumTo};
 ghost use Rattle.form.specs.Form.{decode};
 ghost use Rattle.records.specs.Record.{recordOf, within, fits};
 ghost use Rattle.records.specs.Contracts.{Numbered, takenNumbers, Few, Fitted};
+use crate::MAX_ROUNDS;
 use crate::tally::tally_fits;
 use bits::bits_set;
 use form::Sizes;
@@ -41,13 +42,13 @@ fn all_taken(taken: &[u32; 170], arrays: usize) -> u32
 fn within(denominator: u32, taken: u32, rounds: u16) -> bool
     ensures { λ r. ⌜ r ≡ within denominator taken rounds ⌝ }
 {
-    if 1000 < rounds {
+    if MAX_ROUNDS < rounds {
         return false;
     }
     if denominator <= taken {
         return false;
     }
-    if rounds == 1000 {
+    if rounds == MAX_ROUNDS {
         return taken == 0;
     }
     true
