@@ -1,29 +1,37 @@
--- Where the ranks of a call's list never fall, the refusal that is due is the lowest that applies. Assumes nothing.
+-- Where the ranks of a call's list never fall, the refusal that is due is the lowest that applies; and a cell below zero. Assumes nothing.
 use mathlib.Core.Path.{_≡_, refl, sym, ap, ap₂, _∙_, subst}
-use mathlib.Core.Bool.{Bool, true, false, _&&_}
+use mathlib.Core.Bool.{Bool, true, false, not, _&&_, _||_}
 use mathlib.Core.List.{List, [], _∷_, zipWith, List·Memᴰ as Member, List·Memᴰ·head as here, List·Memᴰ·tail as there}
 use mathlib.Core.Option.{some}
-use Prim.Native.Nat.{ℕ, _≤_}
+use Prim.Native.Nat.{ℕ, _*_, _≤_}
 use native.Mathlib.Nat.{le-refl}
 use native.Mathlib.Omega.{arith}
-use lib.Dec.{leb}
+use lib.ListN.{length}
+use lib.Dec.{leb, ltb}
 use borrow.Author.Tests.{leb-true}
 use Rattle.base.specs.Lists.{all}
 use Rattle.base.proofs.Lists.{and-left, and-right, all-at-member}
 use Rattle.refusals.specs.declared.Refusal.{Refusal}
+use Rattle.refusals.specs.declared.Refusal.the-variants.{LargeCell, Buffer, Array}
+use Rattle.refusals.specs.Places.{placeIn}
 use Rattle.refusals.specs.Due.{Test, refuse, due}
-use Rattle.refusals.proofs.Dues.{due-here, due-next, none-applies}
+use Rattle.refusals.proofs.Dues.{due-here, due-next, due-first, none-applies}
+use Rattle.table.specs.Check.{upTo, tableTests, tableRefusal}
+use Rattle.table.proofs.Checks.{below-zero}
+use Rattle.planning.specs.Rounds.{planOf}
 use Rattle.rounding.specs.Call.{roundRefusal}
 use Rattle.corrections.specs.Call as corrections
-use Rattle.plan.specs.Call.{planRefusal}
+use Rattle.plan.specs.Call.{planBytes, planRefusal}
 use Rattle.opening.specs.Open.{openRefusal, partRefusal}
 use Rattle.drawing.specs.Draw.{drawRefusal}
 use Rattle.plan_parts.specs.Array.{arrayRefusal}
-use Rattle.reason_numbers.specs.Numbers.{replyRefusal}
+use Rattle.reasons.specs.Call.{reasonTests}
+use Rattle.reason_numbers.specs.Numbers.{roomTests, replyRefusal}
 use Rattle.campaign_start.specs.Start.{startRefusal}
 use Rattle.campaign_draw.specs.Draw.{campaignRefusal}
-use Rattle.pool.specs.Pool.{poolRefusal}
-use Rattle.demands.specs.Refusals.{Lowest, Refuses, EachRefuses}
+use Rattle.pool.specs.Pool.{poolingTests, poolingRefusal, poolRefusal}
+use Rattle.pool.proofs.Checking.{either-below-zero}
+use Rattle.demands.specs.Refusals.{Lowest, Refuses, EachRefuses, BelowZeroRefused}
 
 module _ (rank : Refusal → ℕ) where
   -- no row ranks higher than a row after it
@@ -74,7 +82,7 @@ module _ (rank : Refusal → ℕ) where
 
 -- each call by the order that its statement names
 pub each-refuses : EachRefuses
-unfolding rising all zipWith roundRefusal corrections.roundRefusal planRefusal openRefusal partRefusal drawRefusal startRefusal campaignRefusal poolRefusal replyRefusal arrayRefusal
+unfolding rising placeIn all zipWith roundRefusal corrections.roundRefusal planRefusal openRefusal partRefusal drawRefusal startRefusal campaignRefusal poolRefusal replyRefusal arrayRefusal
 each-refuses = record {
   rounding = λ r c d g room. refuses _ _ refl;
   corrections = λ r c d g room. refuses _ _ refl;
@@ -87,4 +95,17 @@ each-refuses = record {
   pool = λ r c d g e h numbers room. refuses _ _ refl;
   reason = λ r c d g k room. refuses _ _ refl;
   array = λ b k one room. refuses _ _ refl;
+}
+
+-- the first four refusals of a call come before all that it tests besides
+pub below-zero-refused : BelowZeroRefused
+unfolding roundRefusal planRefusal replyRefusal poolRefusal tableRefusal poolingRefusal
+below-zero-refused = record {
+  rounding = λ r c d g room z. due-first (tableTests r c d g) (refuse Buffer (ltb room (r * c)) ∷ []) LargeCell (below-zero r c d g z);
+  plan = λ r c d g room z. due-first (tableTests r c d g) (refuse Buffer (ltb room (length (planBytes r c d g))) ∷ []) LargeCell (below-zero r c d g z);
+  reason = λ r c d g k room z.
+      due-first (reasonTests r c d g k) (roomTests room) LargeCell
+      (due-first (tableTests r c d g) (refuse Array (not (upTo (length (planOf r c d g .arrays)) k)) ∷ []) LargeCell (below-zero r c d g z));
+  pool = λ r c d g e h numbers room z.
+      due-first (poolingTests r c d g e h) (refuse Buffer (ltb numbers 1 || ltb room (r * c)) ∷ []) LargeCell (either-below-zero r c d g e h z);
 }

@@ -2,10 +2,11 @@
 // stand in `claims` of the crate that holds it.
 //
 // Demand 1, that no call runs without end, touches memory that it was not lent, or goes unrefused: being proved means the first two; `refusals` says which
-// refusal each call returns; that a refusal leaves every lent buffer as it was is in each call's contract (`after`).
+// refusal each call returns, and `below_zero` that a cell below zero is one; that a refusal leaves every lent buffer as it was is in each call's contract (`after`).
 // Demand 2, that every plan is the specification's: `plans`; that the call writes just this plan is the contract of `plan::plan`. A stored plan opens just if it meets the stated conditions: `opens`.
 // Demand 3, on campaigns: `every_run`, for any plan that opens; and `serves`, for the plan of every accepted table.
-// Pooling and the reasons of weights, which came later: `pools` and `reasons`.
+// What came later: pooling, `pools`; the reasons of weights, `reasons`; variances, in `variances::claims`; the rounding of corrections, in
+// `corrections::claims`, with its refusals here.
 ghost use mathlib.Core.Path.{_≡_};
 ghost use mathlib.Core.Bool.{true};
 ghost use mathlib.Core.List.{List, map};
@@ -27,7 +28,7 @@ ghost use Rattle.plan.specs.Promises.{Promises};
 ghost use Rattle.reasons.specs.Call.{reasonRefusal};
 ghost use Rattle.reasons.specs.Explained.{Explained};
 ghost use Rattle.pool.specs.Pool.{poolingRefusal, poolRefusal, Lent, pooledInto};
-ghost use Rattle.demands.specs.Refusals.{EachRefuses};
+ghost use Rattle.demands.specs.Refusals.{EachRefuses, BelowZeroRefused};
 ghost use Rattle.demands.specs.Opening.{Conditions};
 ghost use Rattle.demands.specs.Claim.{Claim};
 ghost use Rattle.demands.specs.Plans.{Served};
@@ -40,6 +41,8 @@ ghost use Rattle.demands.specs.Slips.{SlipsShut};
 pub fn claims()
     // every call returns the lowest refusal that applies, and one with refusals that came later the first in its order
     ensures refusals { λ _. ⌜ EachRefuses ⌝ }
+    // a cell below zero, handed over as its bits
+    ensures below_zero { λ _. ⌜ BelowZeroRefused ⌝ }
     // what the plan of every accepted table keeps
     ensures plans { λ _. ⌜ ((r c d : ℕ) (g : List ℕ) → tableRefusal r c d g ≡ none → Promises r c d g) ⌝ }
     // which entry set the weight of each of its arrays

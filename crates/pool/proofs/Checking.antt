@@ -1,6 +1,7 @@
 -- What the check of two parts says, and the ways through it. Assumes nothing.
-use mathlib.Core.Path.{_≡_, refl, sym, ap, _∙_}
+use mathlib.Core.Path.{_≡_, refl, sym, ap, ap₂, _∙_}
 use mathlib.Core.List.{List}
+use mathlib.Core.Logic.{⊎-elim}
 use mathlib.Core.Option.{Option, some, none}
 use Prim.Native.Nat.{ℕ, _*_}
 use native.Mathlib.Omega.{arith}
@@ -8,21 +9,23 @@ use mir.Val.{Fits}
 use mir.Syntax.{w64}
 use Rattle.base.specs.Lists.{all}
 use Rattle.refusals.specs.declared.Refusal.{Refusal}
+use Rattle.refusals.specs.declared.Refusal.the-variants.{LargeCell}
 use Rattle.refusals.specs.Due.{due, refusedOr}
 use Rattle.refusals.specs.Either.{lowerOf}
+use Rattle.refusals.proofs.Dues.{due-first}
 use Rattle.refusals.proofs.Eithers.{Alike, no-rows, row, lowerDue, either-due}
 use Rattle.table.specs.Contracts.{IsTable}
-use Rattle.table.specs.Check.{tableTests, tableRefusal, checkOf}
+use Rattle.table.specs.Check.{tableTests, tableRefusal, BelowZero, checkOf}
 use Rattle.table.specs.declared.Table.{Table}
 use Rattle.table.specs.declared.Checked.{Checked}
 use Rattle.table.specs.declared.Checked.the-variants as checked
-use Rattle.table.proofs.Checks.{passed-all}
+use Rattle.table.proofs.Checks.{passed-all, below-zero, four-or-none}
 use Rattle.table.proofs.Tables.{taken, not-taken}
 use Rattle.table.proofs.Totals.{small-product}
 use Rattle.pool.specs.declared.check.Pair.{Pair}
 use Rattle.pool.specs.declared.check.Parts.{Parts}
 use Rattle.pool.specs.declared.check.Parts.the-variants.{Accepted, Refused}
-use Rattle.pool.specs.Pool.{partsTests}
+use Rattle.pool.specs.Pool.{partsTests, poolingRefusal, EitherBelowZero}
 use Rattle.pool.specs.Contracts.{partsAnswer}
 
 -- the number of an accepted table's cells fits
@@ -53,6 +56,20 @@ module _ (r c d : ℕ) (g : List ℕ) (e : ℕ) (h : List ℕ) where
       go none (some y) a b q = absurd (let z : _≡_ {A = ℕ} 0 1 = cc in omega arith)
       go (some x) none a b q = absurd (let z : _≡_ {A = ℕ} 0 1 = cc in omega arith)
       go (some x) (some y) a b q = absurd (let z : _≡_ {A = ℕ} 0 1 = cc in omega arith)
+
+  -- a cell of either below zero, where none of 1 to 3 applies
+  pub either-below-zero : EitherBelowZero r c d g e h → poolingRefusal r c d g e h ≡ some LargeCell
+  unfolding poolingRefusal
+  either-below-zero z = due-first (partsTests r c d g e h) _ LargeCell (parts-due ∙ ⊎-elim first second (z .below))
+    where
+      first : BelowZero r c d g → lowerDue (tableRefusal r c d g) (tableRefusal r c e h) ≡ some LargeCell
+      first b = ⊎-elim (ap₂ lowerDue (below-zero r c d g b)) (ap₂ lowerDue (below-zero r c d g b)) (four-or-none r c e h (z .second-sizes))
+
+      second : BelowZero r c e h → lowerDue (tableRefusal r c d g) (tableRefusal r c e h) ≡ some LargeCell
+      second b = ⊎-elim
+          (λ q. ap₂ lowerDue q (below-zero r c e h b))
+          (λ q. ap₂ lowerDue q (below-zero r c e h b))
+          (four-or-none r c d g (z .first-sizes))
 
   -- the ways through the check
   module _ {one other : Checked} (p : one ≡ checkOf r c d g) (q : other ≡ checkOf r c e h) where

@@ -1,8 +1,11 @@
 -- The pool of two tables of one size, and its refusals (specification, "Pooling two tables" and "Refusals"). Assumes nothing.
+use mathlib.Core.Path.{_≡_}
 use mathlib.Core.Bool.{not, _||_}
 use mathlib.Core.List.{List, [], _∷_, _++_, zipWith}
-use mathlib.Core.Option.{Option}
+use mathlib.Core.Logic.{_⊎_}
+use mathlib.Core.Option.{Option, none}
 use Prim.Native.Nat.{ℕ, _+_, _*_, _/_}
+use lib.ListN.{length}
 use lib.Dec.{ltb}
 use Rattle.base.specs.Buffers.{written}
 use Rattle.refusals.specs.declared.Refusal.{Refusal}
@@ -10,7 +13,7 @@ use Rattle.refusals.specs.declared.Refusal.the-variants.{Multiple, PooledCell, 
 use Rattle.refusals.specs.Due.{Test, refuse, due}
 use Rattle.refusals.specs.Either.{either}
 use Rattle.table.specs.Table.{maxDenominator}
-use Rattle.table.specs.Check.{tableTests, cellsWithin}
+use Rattle.table.specs.Check.{sizeTests, tableTests, cellsWithin, BelowZero}
 use Rattle.multiples.specs.Multiple.{leastMultiple}
 
 -- the cells of two tables, the first's a times and the second's b times, added up cell by cell
@@ -34,6 +37,12 @@ poolingTests r c d g e h =
 -- a pool is accepted if none of these applies
 unfoldable pub poolingRefusal : ℕ → ℕ → ℕ → List ℕ → ℕ → List ℕ → Option Refusal
 poolingRefusal r c d g e h = due (poolingTests r c d g e h)
+
+-- none of 1 to 3 applies to either table, and a cell of either is below zero
+pub record EitherBelowZero (r c d : ℕ) (g : List ℕ) (e : ℕ) (h : List ℕ) : Type 0 where
+  pub first-sizes : due (sizeTests r c d (length g)) ≡ none
+  pub second-sizes : due (sizeTests r c e (length h)) ≡ none
+  pub below : BelowZero r c d g ⊎ BelowZero r c e h
 
 -- the two buffers that the call is lent, for the denominator and for the cells
 pub record Lent : Type 0 where

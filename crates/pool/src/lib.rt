@@ -1,11 +1,12 @@
 // The pool of two tables of one size: their expected counts added up exactly, over the least common multiple of their denominators.
 ghost use mathlib.Core.Path.{_≡_};
 ghost use mathlib.Core.List.{List, map};
-ghost use mathlib.Core.Option.{none};
+ghost use mathlib.Core.Option.{none, some};
 ghost use Prim.Native.Nat.{ℕ};
 ghost use lib.ListN.{length};
+ghost use Rattle.refusals.specs.declared.Refusal.the-variants.{LargeCell};
 ghost use Rattle.refusals.specs.Due.{Answers};
-ghost use Rattle.pool.specs.Pool.{poolingRefusal, poolRefusal, lent, pooledInto};
+ghost use Rattle.pool.specs.Pool.{poolingRefusal, EitherBelowZero, poolRefusal, lent, pooledInto};
 ghost use Rattle.pool.specs.Promises.{Pools};
 ghost use Rattle.pool.specs.Contracts.{Denominators, scaleOf};
 ghost use Rattle.pool.specs.Examples.{cases, pooled, said};
@@ -88,9 +89,10 @@ pub fn pool(
     }
 }
 
-// Of every two tables that are not refused the pool is their exact sum, over the least common multiple, and an accepted table; and the literal cases are as
-// stated: equal, coprime and dividing denominators, the bounds of 11 and 12, each refusal, and each two of them at once.
+// Of every two tables that are not refused the pool is their exact sum, over the least common multiple, and an accepted table; a cell of either below zero is
+// 4, where none of 1 to 3 applies; and the literal cases are as stated: equal, coprime and dividing denominators, the bounds of 11 and 12, each refusal, and each two of them at once.
 pub fn claims()
     ensures pools { λ _. ⌜ ((r c d : ℕ) (g : List ℕ) (e : ℕ) (h : List ℕ) → poolingRefusal r c d g e h ≡ none → Pools r c d g e h) ⌝ }
+    ensures below_zero { λ _. ⌜ ((r c d : ℕ) (g : List ℕ) (e : ℕ) (h : List ℕ) → EitherBelowZero r c d g e h → poolingRefusal r c d g e h ≡ some LargeCell) ⌝ }
     ensures cases { λ _. ⌜ map pooled cases ≡ map said cases ⌝ }
 {}

@@ -3,7 +3,9 @@ ghost use mathlib.Core.Path.{_≡_};
 ghost use mathlib.Core.Bool.{true};
 ghost use mathlib.Core.List.{List};
 ghost use mathlib.Core.Option.{some, none};
+ghost use lib.ListN.{getD};
 ghost use Rattle.refusals.specs.Numbers.{numberOf};
+ghost use Rattle.refusals.specs.Places.{order, orderOnPlan, placeIn};
 ghost use Rattle.refusals.specs.Answer.{answerNumber};
 ghost use Rattle.refusals.specs.Due.{Test, due, noneApplies, FirstDue};
 ghost use Rattle.refusals.specs.Either.{lowerOf};
@@ -85,8 +87,10 @@ pub fn answer_number(a: Answer) -> u32
     }
 }
 
-// Of any list of conditions and refusals: what is returned applies, and nothing before it does; and nothing is returned exactly if none applies.
+// Of any list of conditions and refusals: what is returned applies, and nothing before it does; and nothing is returned exactly if none applies. In either
+// order each refusal's number stands at its place, so that no two share one.
 pub fn claims()
     ensures first { λ _. ⌜ ((l : List Test) (x : Refusal) → due l ≡ some x → FirstDue l x) ⌝ }
     ensures none { λ _. ⌜ ((l : List Test) → (due l ≡ none → noneApplies l ≡ true) × (noneApplies l ≡ true → due l ≡ none)) ⌝ }
+    ensures places { λ _. ⌜ ((x : Refusal) → (getD order (placeIn order x) 0 ≡ numberOf x) × (getD orderOnPlan (placeIn orderOnPlan x) 0 ≡ numberOf x)) ⌝ }
 {}

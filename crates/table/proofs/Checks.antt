@@ -2,6 +2,7 @@
 use mathlib.Core.Path.{_≡_, refl, sym, _∙_}
 use mathlib.Core.Bool.{Bool, true, false, not, _&&_}
 use mathlib.Core.List.{List, [], _∷_, _++_}
+use mathlib.Core.Logic.{_⊎_, inl, inr}
 use mathlib.Core.Option.{Option, some, none}
 use Prim.Native.Nat.{ℕ, _+_, _*_, _<_, _≤_}
 use native.Mathlib.Omega.{arith}
@@ -14,14 +15,14 @@ use borrow.Author.Tests.{lt-leb, le-leb, leb-true, eqb-true, not-true, not-false
 use Rattle.refusals.specs.declared.Refusal.{Refusal}
 use Rattle.refusals.specs.Due.{Test, refuse, due}
 use Rattle.refusals.proofs.Dues.{not-here, not-later, due-first, due-second, first-none}
-use Rattle.table.specs.Check.{upTo, cellsWithin, sizeWithin, denominatorWithin, sizeTests, tableRefusal, answered, sizesOf, checkOfCells, checkOf}
+use Rattle.table.specs.Check.{upTo, cellsWithin, sizeWithin, denominatorWithin, sizeTests, tableRefusal, BelowZero, answered, sizesOf, checkOfCells, checkOf}
 use Rattle.refusals.specs.declared.Refusal.the-variants.{Size, Denominator, CellCount, LargeCell}
 use Rattle.table.specs.declared.Table.{Table}
 use Rattle.table.specs.Contracts.{IsTable}
 use Rattle.table.specs.declared.Checked.{Checked}
 use Rattle.table.specs.declared.Checked.the-variants.{Accepted, Refused}
 use Rattle.table.proofs.Totals.{small-product}
-use Rattle.base.proofs.Lists.{all-intro, all-elim, all-fails, and-left, and-right}
+use Rattle.base.proofs.Lists.{all-intro, all-elim, all-fails, all-at-member, and-left, and-right}
 
 pub too-small : (bound n : ℕ) → n < 1 → false ≡ upTo bound n
 too-small bound n h = simp (lt-leb 1 n h)
@@ -212,3 +213,26 @@ module _ (r c d : ℕ) (g : List ℕ) where
   pub refused : (x : Refusal) → Refused x ≡ checkOf r c d g → tableRefusal r c d g ≡ some x
   unfolding checkOf checkOfCells tableRefusal
   refused x e = answered-refused r c d (tableRefusal r c d g) x e
+
+-- a cell below zero is above the bound of every denominator
+pub below-zero : (r c d : ℕ) (g : List ℕ) → BelowZero r c d g → tableRefusal r c d g ≡ some LargeCell
+unfolding tableRefusal due
+below-zero r c d g z = due-second (sizeTests r c d (length g)) (refuse LargeCell (not (cellsWithin d g)) ∷ []) (z .sizes) ∙ go (cellsWithin d g) refl
+  where
+    go : (b : Bool) → cellsWithin d g ≡ b → due (refuse LargeCell (not (cellsWithin d g)) ∷ []) ≡ some LargeCell
+    go false e = rw e refl
+    go true e =
+        let low = leb-true (z .cell) (1000 * d) (all-at-member _ g e (z .there)) in
+        absurd (omega (arith, low, z .below, passed-sizes r c d (length g) (z .sizes) .denominator))
+
+-- a table of such sizes meets 4 or nothing
+pub four-or-none : (r c d : ℕ) (g : List ℕ) → due (sizeTests r c d (length g)) ≡ none → (tableRefusal r c d g ≡ none) ⊎ (tableRefusal r c d g ≡ some LargeCell)
+unfolding tableRefusal due
+four-or-none r c d g h = go (cellsWithin d g) refl
+  where
+    sized : tableRefusal r c d g ≡ due (refuse LargeCell (not (cellsWithin d g)) ∷ [])
+    sized = due-second (sizeTests r c d (length g)) (refuse LargeCell (not (cellsWithin d g)) ∷ []) h
+
+    go : (b : Bool) → cellsWithin d g ≡ b → (tableRefusal r c d g ≡ none) ⊎ (tableRefusal r c d g ≡ some LargeCell)
+    go true e = inl (sized ∙ rw e refl)
+    go false e = inr (sized ∙ rw e refl)

@@ -1,8 +1,9 @@
 -- Which refusal a table meets (specification, "Refusals"). Assumes nothing.
+use mathlib.Core.Path.{_≡_}
 use mathlib.Core.Bool.{Bool, not, _&&_}
-use mathlib.Core.List.{List, [], _∷_, _++_}
-use mathlib.Core.Option.{Option}
-use Prim.Native.Nat.{ℕ, _*_}
+use mathlib.Core.List.{List, [], _∷_, _++_, List·Memᴰ as Member}
+use mathlib.Core.Option.{Option, none}
+use Prim.Native.Nat.{ℕ, _*_, _≤_}
 use lib.ListN.{length}
 use lib.Dec.{leb, eqb}
 use Rattle.base.specs.Lists.{all}
@@ -53,6 +54,13 @@ tableTests r c d g = cellTests r c d (length g) (cellsWithin d g)
 
 unfoldable pub tableRefusal : ℕ → ℕ → ℕ → List ℕ → Option Refusal
 tableRefusal r c d g = due (tableTests r c d g)
+
+-- none of 1 to 3 applies, and a cell is below zero: handed over as its 32 bits it is 2³¹ or more
+pub record BelowZero (r c d : ℕ) (g : List ℕ) : Type 0 where
+  pub sizes : due (sizeTests r c d (length g)) ≡ none
+  pub cell : ℕ
+  pub there : Member cell g
+  pub below : 2147483648 ≤ cell
 
 -- what a check answers, of what is due: the sizes where nothing is, else the refusal
 abbrev pub answered : ℕ → ℕ → ℕ → Option Refusal → Checked

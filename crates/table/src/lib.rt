@@ -1,7 +1,11 @@
 // Tables of expected counts: their bounds, their refusals and their entries.
 ghost use mathlib.Core.Path.{_≡_};
-ghost use mathlib.Core.List.{[], _∷_, map};
+ghost use mathlib.Core.List.{List, [], _∷_, map};
+ghost use mathlib.Core.Option.{some};
+ghost use Prim.Native.Nat.{ℕ};
+ghost use Rattle.refusals.specs.declared.Refusal.the-variants.{LargeCell};
 ghost use Rattle.table.specs.Table.{maxRows, maxColumns, maxArrays, maxDenominator, maxExpected, maxCells, entries};
+ghost use Rattle.table.specs.Check.{BelowZero, tableRefusal};
 ghost use Rattle.table.specs.Examples.{cases, checked, rounded, roundedOf};
 
 pub mod check;
@@ -49,8 +53,10 @@ pub fn bounds()
     ensures cells { λ _. do ⌜ (← ⟦Table::MAX_CELLS⟧ .entry) ≡ maxCells ⌝ }
 {}
 
-// The literal cases are as stated: refusals 1 to 4 and each two of them at once, the order of the entries, and the rounding of one entry.
+// A cell below zero is 4, whatever the table, where none of 1 to 3 applies. And the literal cases are as stated: refusals 1 to 4 and each two of them at once,
+// the order of the entries, and the rounding of one entry.
 pub fn claims()
+    ensures below_zero { λ _. ⌜ ((r c d : ℕ) (g : List ℕ) → BelowZero r c d g → tableRefusal r c d g ≡ some LargeCell) ⌝ }
     ensures checks { λ _. ⌜ map checked cases ≡ map (λ x. x .number) cases ⌝ }
     ensures entries { λ _. ⌜ entries 2 3 (1 ∷ 2 ∷ 3 ∷ 40 ∷ 50 ∷ 60 ∷ []) ≡ 1 ∷ 2 ∷ 3 ∷ 40 ∷ 50 ∷ 60 ∷ 6 ∷ 150 ∷ 41 ∷ 52 ∷ 63 ∷ 156 ∷ [] ⌝ }
     ensures rounded { λ _. ⌜ map (λ x. roundedOf (x .entry)) rounded ≡ rounded ⌝ }

@@ -2,7 +2,7 @@
 use Rattle.table.proofs.Checks.{passed-all}
 use Rattle.plan.proofs.Planning.{promised}
 use Rattle.reasons.proofs.Explaining.{every-explained}
-use Rattle.demands.proofs.Lowests.{each-refuses}
+use Rattle.demands.proofs.Lowests.{each-refuses, below-zero-refused}
 use Rattle.demands.proofs.Conditions.{opens-just}
 use Rattle.demands.proofs.Campaigns.{claim}
 use Rattle.demands.proofs.Serving.{served}
@@ -17,16 +17,19 @@ returns : tie.Need-returns
 returns k = (
   each-refuses,
   (
-    λ r c d g h. promised (passed-all r c d g h),
+    below-zero-refused,
     (
-      every-explained,
+      λ r c d g h. promised (passed-all r c d g h),
       (
-        opens-just,
+        every-explained,
         (
-          claim,
+          opens-just,
           (
-            served,
-            (served-pool, (few-entries, (whole-limit, (belonging, (examples-hold, (runs-hold, slips-shut)))))),
+            claim,
+            (
+              served,
+              (served-pool, (few-entries, (whole-limit, (belonging, (examples-hold, (runs-hold, slips-shut)))))),
+            ),
           ),
         ),
       ),
