@@ -1,24 +1,29 @@
 -- The ways through the call that writes a reason. Assumes nothing.
 use mathlib.Core.Path.{_≡_, refl, sym, ap, _∙_}
+use mathlib.Core.Bool.{Bool, true, false, cond}
 use mathlib.Core.List.{List, [], _∷_, _++_}
 use mathlib.Core.Option.{Option, some, none}
 use Prim.Native.Nat.{ℕ, _<_, _≤_}
 use native.Mathlib.Omega.{arith}
 use lib.ListN.{length}
+use lib.Dec.{eqb}
 use borrow.Author.Tests.{lt-ltb, le-ltb}
 use Rattle.base.specs.Buffers.{written}
 use Rattle.refusals.specs.declared.Refusal.{Refusal}
 use Rattle.refusals.specs.declared.Refusal.the-variants.{Buffer}
 use Rattle.refusals.specs.declared.Answer.{Answer}
 use Rattle.refusals.specs.declared.Answer.the-variants as answer
-use Rattle.refusals.specs.Due.{due, refusedOr, Answers}
+use Rattle.refusals.specs.Answer.{answerNumber}
+use Rattle.refusals.specs.Due.{due, refusedOr, answerOf, Answers}
 use Rattle.refusals.proofs.Dues.{due-first, due-second, refused-so, accepted-so}
 use Rattle.reasons.specs.declared.Entry.{Entry}
 use Rattle.reasons.specs.declared.Reply.{Reply}
 use Rattle.reasons.specs.declared.Reply.the-variants.{Down, Up, AllWhole, Refused}
-use Rattle.reasons.specs.Reason.{reasonOf}
+use Rattle.table.specs.Whole.{down}
+use Rattle.planning.specs.Rounds.{Round}
+use Rattle.reasons.specs.Reason.{expectedIn, countIn, setBy, allWhole, reasonOf}
 use Rattle.reasons.specs.Call.{roundAt, reasonTests, reasonRefusal, reasonAnswer}
-use Rattle.reason_numbers.specs.Numbers.{entryNumbers, reasonNumbers, roomTests, roomRefusal, replyRefusal}
+use Rattle.reason_numbers.specs.Numbers.{entryNumbers, reasonNumbers, replyNumber, roomTests, roomRefusal, replyRefusal}
 use Rattle.reasons.proofs.Telling.{told}
 
 -- the numbers of a known entry
@@ -82,3 +87,26 @@ module _ (r c d : ℕ) (g : List ℕ) (k : ℕ) (reply : List ℕ) {x : Reply} (
 
     pub up-replied : x ≡ Up e → Answers (roomRefusal (length reply)) (written (entryNumbers e ++ (2 ∷ [])) reply) reply a new → Replies a new
     up-replied h = replied (λ y q. let z : _≡_ {A = ℕ} 0 1 = cc in omega arith) (ap reasonNumbers h)
+
+-- a reason's number is 0
+told-zero : (whole below : Bool) (e : Entry) → replyNumber (cond whole (AllWhole e) (cond below (Down e) (Up e))) ≡ 0
+told-zero true below e = refl
+told-zero false true e = refl
+told-zero false false e = refl
+
+reason-zero : (r c : ℕ) (x : Round) → replyNumber (reasonOf r c x) ≡ 0
+unfolding reasonOf
+reason-zero r c x = told-zero (allWhole r c x) (eqb (countIn r c x (setBy r c x)) (down (x .left) (expectedIn r c x (setBy r c x)))) (setBy r c x)
+
+-- with room for four numbers the call returns the reply's number
+pub reply-number : (r c d : ℕ) (g : List ℕ) (k room : ℕ) → 4 ≤ room → answerNumber (answerOf (replyRefusal r c d g k room)) ≡ replyNumber (reasonAnswer r c d g k)
+unfolding replyRefusal reasonRefusal reasonAnswer answerOf due
+reply-number r c d g k room h = go (due (reasonTests r c d g k)) refl
+  where
+    none-more : due (roomTests room) ≡ none
+    none-more = simp (le-ltb room 4 h)
+
+    go : (o : Option Refusal) → due (reasonTests r c d g k) ≡ o
+        → answerNumber (answerOf (due (reasonTests r c d g k ++ roomTests room))) ≡ replyNumber (refusedOr Refused (reasonOf r c (roundAt r c d g k)) (due (reasonTests r c d g k)))
+    go none q = rw (due-second (reasonTests r c d g k) (roomTests room) q, none-more, q) (sym (reason-zero r c (roundAt r c d g k)))
+    go (some x) q = rw (due-first (reasonTests r c d g k) (roomTests room) x q, q) refl

@@ -5,6 +5,7 @@ use Prim.Native.Nat.{ℕ}
 use lib.Dec.{ltb}
 use Rattle.refusals.specs.declared.Refusal.{Refusal}
 use Rattle.refusals.specs.declared.Refusal.the-variants.{Buffer}
+use Rattle.refusals.specs.Numbers.{numberOf}
 use Rattle.refusals.specs.Due.{Test, refuse, due}
 use Rattle.reasons.specs.declared.Entry.{Entry}
 use Rattle.reasons.specs.declared.Entry.the-variants.{Cell, RowTotal, ColumnTotal, GrandTotal}
@@ -25,6 +26,13 @@ reasonNumbers (AllWhole e) = entryNumbers e ++ (0 ∷ [])
 reasonNumbers (Down e) = entryNumbers e ++ (1 ∷ [])
 reasonNumbers (Up e) = entryNumbers e ++ (2 ∷ [])
 reasonNumbers (Refused x) = []
+
+-- the number that each reply stands for: 0 for a reason, else the refusal's
+abbrev pub replyNumber : Reply → ℕ
+replyNumber (AllWhole e) = 0
+replyNumber (Down e) = 0
+replyNumber (Up e) = 0
+replyNumber (Refused x) = numberOf x
 
 -- 7: a buffer has no room for four numbers
 abbrev pub roomTests : ℕ → List Test

@@ -1,12 +1,13 @@
 // Which entry set a weight, as four numbers that are written to a lent buffer.
 ghost use mathlib.Core.Path.{_≡_};
-ghost use mathlib.Core.List.{[], _∷_, _++_, map};
-ghost use Prim.Native.Nat.{_≤_};
+ghost use mathlib.Core.List.{List, [], _∷_, _++_, map};
+ghost use Prim.Native.Nat.{ℕ, _≤_};
 ghost use lib.ListN.{length};
 ghost use Rattle.base.specs.Buffers.{written};
-ghost use Rattle.refusals.specs.Due.{Answers};
+ghost use Rattle.refusals.specs.Answer.{answerNumber};
+ghost use Rattle.refusals.specs.Due.{answerOf, Answers};
 ghost use Rattle.reasons.specs.Call.{reasonAnswer};
-ghost use Rattle.reason_numbers.specs.Numbers.{entryNumbers, reasonNumbers, roomRefusal, replyRefusal};
+ghost use Rattle.reason_numbers.specs.Numbers.{entryNumbers, reasonNumbers, replyNumber, roomRefusal, replyRefusal};
 ghost use Rattle.reason_numbers.specs.Examples.{calls, replied, said};
 use base::write::write_four;
 use reasons::Entry;
@@ -62,7 +63,9 @@ pub fn write_reason(
     }
 }
 
-// The literal calls are as stated.
+// With room for four numbers the call returns the number of the reply, whatever the table; and the literal calls are as stated.
 pub fn claims()
-    ensures { λ _. ⌜ map replied calls ≡ map said calls ⌝ }
+    ensures numbers { λ _. ⌜ ((r c d : ℕ) (g : List ℕ) (k room : ℕ) → 4 ≤ room
+        → answerNumber (answerOf (replyRefusal r c d g k room)) ≡ replyNumber (reasonAnswer r c d g k)) ⌝ }
+    ensures calls { λ _. ⌜ map replied calls ≡ map said calls ⌝ }
 {}
