@@ -49,6 +49,26 @@ added-small zero (suc n) x h l z = omega (arith, pow-suc 2 n, bit-first x)
 added-small (suc k) (suc n) x h l z =
     omega (arith, pow-suc 2 n, pow-suc 2 k, added-small k n (x / 2) (omega arith) (omega (arith, pow-suc 2 n)) (sym (bit-next x k) ∙ z))
 
+-- numbers below 2 ^ n with the same n bits are the same
+same-number : (n x y : ℕ) → x < 2 ^ n → y < 2 ^ n → ((k : ℕ) → k < n → bit x k ≡ bit y k) → x ≡ y
+same-number zero x y h l e = omega arith
+same-number (suc n) x y h l e =
+    let half = same-number n (x / 2) (y / 2) (omega (arith, pow-suc 2 n)) (omega (arith, pow-suc 2 n))
+    (λ k m. sym (bit-next x k) ∙ e (suc k) (omega arith) ∙ bit-next y k) in
+    omega (arith, half, bit-first x, bit-first y, e 0 (omega arith))
+
+-- and so bytes of two lists
+pub same-byte : (a b : List ℕ) (i : ℕ) → getD a i 0 < 256 → getD b i 0 < 256 → ((d : ℕ) → d / 8 ≡ i → bitOf a d ≡ bitOf b d) → getD a i 0 ≡ getD b i 0
+unfolding bitOf bit
+same-byte a b i h l e = same-number 8 (getD a i 0) (getD b i 0) h l at
+  where
+    at : (k : ℕ) → k < 8 → bit (getD a i 0) k ≡ bit (getD b i 0) k
+    at k m =
+        let q : (8 * i + k) / 8 ≡ i = omega arith in
+        let r : (8 * i + k) % 8 ≡ k = omega arith in
+        let same : bit (getD a ((8 * i + k) / 8) 0) ((8 * i + k) % 8) ≡ bit (getD b ((8 * i + k) / 8) 0) ((8 * i + k) % 8) = e (8 * i + k) q in
+        rw (q, r) at same
+
 -- numbers of the same byte are equal as their places in it are
 place-eq : (d e : ℕ) → e / 8 ≡ d / 8 → eqb (d % 8) (e % 8) ≡ eqb d e
 place-eq d e q = go (ℕ-discrete d e)

@@ -1,6 +1,6 @@
 -- What a campaign draw answers and writes, by the tests on its way. Assumes nothing.
 use mathlib.Core.Path.{_≡_, refl, sym, ap, _∙_}
-use mathlib.Core.Bool.{Bool, true, false, not, _&&_}
+use mathlib.Core.Bool.{Bool, true, false, not}
 use mathlib.Core.List.{List, [], _∷_}
 use mathlib.Core.Option.{none}
 use Prim.Native.Nat.{ℕ, _+_, _*_, _/_, _%_, _^_, _<_, _≤_}
@@ -11,10 +11,10 @@ use lib.Dec.{leb, ltb, eqb}
 use mir.Val.{Fits}
 use mir.Syntax.{w64}
 use borrow.Author.Tests.{le-leb, lt-leb, leb-false, lt-ltb, le-ltb, ltb-false, eqb-true, eq-eqb, ne-eqb, not-true, not-false}
-use Rattle.base.specs.Lists.{tabulate, sumTo}
+use Rattle.base.specs.Lists.{tabulate}
 use Rattle.base.specs.Buffers.{written}
 use Rattle.base.specs.Contracts.{Filled}
-use Rattle.base.proofs.Lists.{and-left, and-right, tabulate-ext, tabulate-all}
+use Rattle.base.proofs.Lists.{tabulate-ext}
 use Rattle.base.proofs.Filling.{front-more}
 use Rattle.base.proofs.Buffers.{written-at, written-length}
 use Rattle.refusals.specs.declared.Answer.{Answer}
@@ -34,7 +34,7 @@ use Rattle.drawing.specs.Contracts.{Drawing}
 use Rattle.reading.specs.Contracts.{Sized}
 use Rattle.reading.proofs.Sizing.{cells-are, denominator-is, sized-denominator}
 use Rattle.opening.proofs.Opening.{is-open, opened-sized, sizes-product}
-use Rattle.records.specs.Record.{CampaignRecord, recordOf, spareClear, takenSum, maxRounds, within, fits}
+use Rattle.records.specs.Record.{CampaignRecord, recordOf, maxRounds, within, fits}
 use Rattle.bits.specs.Bits.{bitOf, bitBytes}
 use Rattle.campaign_start.specs.Start.{startTests, startRefusal}
 use Rattle.campaign_draw.specs.Draw.{campaignRefusal, taking, closed, ask, made, Draws}
@@ -45,6 +45,7 @@ use Rattle.campaign_start.specs.Contracts.{sizesOr}
 use Rattle.campaign_draw.specs.Contracts.{Addends, Closable, Closes}
 use Rattle.opening.proofs.Sound.{sound}
 use Rattle.records.proofs.Numbers.{array-length, count-room, tally-room}
+use Rattle.records.proofs.Holding.{fit-count, fit-tally}
 use Rattle.campaign_start.proofs.Starting.{says-plan, says-refused, told-plan, told-refused, opened-first, fitted-of, after-start, start-sizes, start-none, start-refused}
 
 -- counts added to the numbers of a buffer
@@ -103,11 +104,11 @@ module _ (b bits tally : List ℕ) {o : Opened} (is : o ≡ sizesOr b (startRefu
         not-fitting q = says-refused b (draw-by ∙ simp (le-ltb _ _ h, lt-leb _ _ l, sym xe ∙ not-true x q))
 
         module _ (q : not x ≡ false) where
-          pub all-done : 1000 ≤ rounds → opened.Refused Rounds ≡ sizesOr b (campaignRefusal b d given room)
+          pub all-done : maxRounds ≤ rounds → opened.Refused Rounds ≡ sizesOr b (campaignRefusal b d given room)
           unfolding due
           all-done m = says-refused b (draw-by ∙ simp (le-ltb _ _ h, lt-leb _ _ l, sym xe ∙ not-false x q, le-leb _ _ m))
 
-          module _ (m : rounds < 1000) (y : ℕ) (ye : y ≡ bitOf bits d) where
+          module _ (m : rounds < maxRounds) (y : ℕ) (ye : y ≡ bitOf bits d) where
             pub is-taken : (y ≡ 0 → ⊥) → opened.Refused Taken ≡ sizesOr b (campaignRefusal b d given room)
             unfolding due
             is-taken z =
@@ -119,27 +120,6 @@ module _ (b bits tally : List ℕ) {o : Opened} (is : o ≡ sizesOr b (startRefu
                 says-plan b
                 (draw-by ∙ simp (le-ltb _ _ h, lt-leb _ _ l, sym xe ∙ not-false x q, lt-leb _ _ m, eq-eqb _ 0 (sym ye ∙ z)))
                 (start-sizes b bits tally is e)
-
--- what a record that fits is known to hold
-module _ (p : Plan) (s : CampaignRecord) (f : fits p s ≡ true) where
-  abbrev bits-right : Bool
-  bits-right = spareClear (p .denominator) (s .bits)
-
-  abbrev count-right : Bool
-  count-right = eqb (s .taken) (sumTo (p .denominator) (bitOf (s .bits)))
-
-  abbrev stands : Bool
-  stands = within (p .denominator) (s .taken) (s .rounds)
-
-  fit-count : s .taken ≡ sumTo (p .denominator) (bitOf (s .bits))
-  unfolding fits
-  fit-count = eqb-true _ _ (and-right bits-right count-right (and-left (bits-right && count-right) stands (and-left (bits-right && count-right && stands) _ f)))
-
-  fit-tally : (i : ℕ) → i < cellCount p → getD (s .tally) i 0 ≡ s .rounds * getD (p .cells) i 0 + takenSum p (s .bits) i
-  unfolding fits
-  fit-tally i l =
-      eqb-true _ _ (tabulate-all (λ j. eqb (getD (s .tally) j 0) (s .rounds * getD (p .cells) j 0 + takenSum p (s .bits) j)) (cellCount p) (λ i. i)
-      (and-right (bits-right && count-right && stands) _ f) i l)
 
 -- a campaign draw, by what is due of it
 module _ (b : List ℕ) (s : CampaignRecord) (d room : ℕ) {o : Opened} (is : o ≡ sizesOr b (campaignRefusal b d s room)) where
@@ -190,7 +170,7 @@ module _ (b : List ℕ) (s : CampaignRecord) (d room : ℕ) {o : Opened} (is : o
     fit : fits (decode b) s ≡ true
     fit = not-false _ (not-here _ _ (not-later _ _ (not-later _ _ rest-due)))
 
-    going-on : s .rounds < 1000
+    going-on : s .rounds < maxRounds
     going-on = leb-false _ _ (not-here _ _ (not-later _ _ (not-later _ _ (not-later _ _ rest-due))))
 
     new : bitOf (s .bits) d ≡ 0
@@ -235,7 +215,7 @@ module _ (b : List ℕ) (s : CampaignRecord) (d room : ℕ) {o : Opened} (is : o
         tally-room = fitted .tally-room;
         small = λ i l.
             let l′ : i < cellCount (decode b) = omega (arith, cells) in
-            let before : s .rounds * getD (decode b .cells) i 0 ≤ 1000 * 65535000 = mul-le-mul (let a : s .rounds ≤ 1000 = omega (arith, going-on) in a) (cell-small i l′) in
+            let before : s .rounds * getD (decode b .cells) i 0 ≤ maxRounds * 65535000 = mul-le-mul (let a : s .rounds ≤ maxRounds = omega (arith, going-on) in a) (cell-small i l′) in
             omega (arith, count-at i l, fit-tally (decode b) s fit i l′, tally-room (sound b opens) (s .bits) below new i, cell-small i l′, before);
       }
 

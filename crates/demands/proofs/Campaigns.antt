@@ -14,7 +14,7 @@ use Rattle.campaign_draw.specs.Draw.{Made}
 use Rattle.demands.specs.Runs.{drawn, unused, Rounds}
 use Rattle.demands.specs.Claim.{Claim}
 use Rattle.demands.proofs.Rounds.{balances, inside, completed, none-used, none-drawn}
-use Rattle.demands.proofs.Steps.{Holds, RunHolds, drawn-all, step-start}
+use Rattle.demands.proofs.Steps.{Holds, RunHolds, drawn-all, fits-run, step-start}
 use Rattle.demands.proofs.Runs.{a-number, start-done, start-left, run-holds, run-each, run-asked}
 
 -- over all rounds
@@ -42,4 +42,5 @@ claim b o s₀ l room =
       over = λ e. let none = run .over e in (none-used plan (run .holds .current) none, none, none-drawn plan (run .holds .current) none);
       over-all = all-balance plan (run .holds);
       after-list = run .holds .claim;
+      still-fits = fits-run plan run;
     }

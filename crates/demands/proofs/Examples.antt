@@ -24,6 +24,7 @@ use Rattle.records.specs.Record.{within, fits}
 use Rattle.campaign_start.specs.Start.{startRefusal, cleared, started}
 use Rattle.campaign_draw.specs.Draw.{campaignRefusal, taking, closed, made}
 use Rattle.demands.specs.Runs.{draws, lastRecord, used, overAccepted, unused, oneMore, further}
+use Rattle.demands.specs.Resumed.{numbersDrawn}
 use Rattle.demands.specs.Examples.{examples, computed, ExamplesHold}
 use Rattle.demands.specs.Campaigns.{runs, saidOf}
 use Rattle.demands.specs.Slips.{SlipsShut, roundsOverCells, mended, drawsCountingAll}
@@ -42,7 +43,8 @@ module _ (d : ℕ) (some : 1 ≤ d) (h : d ≤ 65535) where
   above = simp (le-leb 1 d some, le-leb d 65535 h, lt-leb (1000 * d + 1) (1000 * d) (omega arith))
 
 pub examples-hold : ExamplesHold
-examples-hold = record { rows = rows-hold; zeros = zero-plan; cell-taken = taken; cell-above = above }
+unfolding numbersDrawn joinTo bitOf number decode
+examples-hold = record { rows = rows-hold; zeros = zero-plan; cell-taken = taken; cell-above = above; numbers-drawn = refl }
 
 pub runs-hold : map (λ r. saidOf (r .plan) (r .given) (r .before) (r .list)) runs ≡ map (λ r. r .said) runs
 unfolding draws lastRecord used overAccepted unused oneMore further started made startRefusal cleared campaignRefusal taking closed within fits bitOf sumTo arrayFor due answerOf after number decode headRight laidOut consistent tabulate sum all entryPlaces total whole roundsTo

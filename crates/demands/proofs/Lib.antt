@@ -5,6 +5,7 @@ pub mod Rounds
 pub mod Steps
 pub mod Runs
 pub mod Campaigns
+pub mod Resuming
 pub mod Belongings
 pub mod Sentences
 pub mod Serving

@@ -151,6 +151,19 @@ module _ (b : List ℕ) (o : Opens b) (s₀ : CampaignRecord) (room : roomFor (d
     unfolding made
     left-by e = rw e
 
+    -- a draw that meets none of the four is accepted
+    pub is-done : ltb (length (x .buffer)) (cellCount (decode b)) ≡ false → leb (decode b .denominator) (x .number) ≡ false
+        → leb maxRounds (length (r .completed)) ≡ false → used (r .current) (x .number) ≡ false → made b s x .answer ≡ Done
+    unfolding made answerOf due
+    is-done long below going new =
+        let nothing : due (runTests (decode b) r x) ≡ none = simp (long, below, going, new) in
+        ap answerOf (due-by ∙ nothing)
+
+    -- and what it leaves of the record
+    pub left-accepted : made b s x .answer ≡ Done → made b s x .left ≡ closed (decode b .denominator) (taking (decode b) (x .number) s)
+    unfolding made after
+    left-accepted e = left-by (done-none _ e)
+
     pub draw-claim : DrawClaim b r (made b s x)
     unfolding made after
     draw-claim = record {

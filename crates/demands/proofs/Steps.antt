@@ -20,7 +20,7 @@ use Rattle.refusals.specs.declared.Answer.the-variants.{Done, Refused}
 use Rattle.refusals.specs.declared.Refusal.{Refusal}
 use Rattle.weighted_arrays.specs.Plan.{Plan, cellCount, arrayFor}
 use Rattle.opening.proofs.Sound.{Sound}
-use Rattle.records.specs.Record.{CampaignRecord, recordOf, spareClear, takenSum, within, fits, roomFor}
+use Rattle.records.specs.Record.{CampaignRecord, recordOf, maxRounds, spareClear, takenSum, within, fits, roomFor}
 use Rattle.bits.specs.Bits.{bitOf, bitBytes}
 use Rattle.campaign_start.specs.Start.{cleared}
 use Rattle.campaign_draw.specs.Draw.{taking, closed, Made}
@@ -47,8 +47,8 @@ pub record Holds (p : Plan) (s₀ : CampaignRecord) (h : List Made) (r : Rounds)
 pub record RunHolds (p : Plan) (s₀ : CampaignRecord) (h : List Made) (r : Rounds) (s : CampaignRecord) : Type 0 where
   pub holds : Holds p s₀ h r s
   pub left : accepted (r .current) < p .denominator
-  pub few : length (r .completed) ≤ 1000
-  pub over : length (r .completed) ≡ 1000 → accepted (r .current) ≡ 0
+  pub few : length (r .completed) ≤ maxRounds
+  pub over : length (r .completed) ≡ maxRounds → accepted (r .current) ≡ 0
 
 -- what all rounds drew
 pub drawn-all : {p : Plan} {s₀ s : CampaignRecord} {h : List Made} {r : Rounds} → Sound p → Holds p s₀ h r s → (places : List ℕ)
@@ -65,7 +65,7 @@ module _ {p : Plan} {s₀ s : CampaignRecord} {h : List Made} {r : Rounds} (o : 
   count-bits : s .taken ≡ sumTo (p .denominator) (bitOf (s .bits))
   count-bits = holds .claim .count ∙ holds .current .over (λ a. 1) ∙ sum-ext (p .denominator) _ _ (λ d l. sym (holds .claim .bits d l))
 
-  tally-bits : (i : ℕ) → i < cellCount p → getD (s .tally) i 0 ≡ s .rounds * getD (p .cells) i 0 + takenSum p (s .bits) i
+  pub tally-bits : (i : ℕ) → i < cellCount p → getD (s .tally) i 0 ≡ s .rounds * getD (p .cells) i 0 + takenSum p (s .bits) i
   tally-bits i l =
       holds .claim .tally i l ∙ drawn-all o holds (i ∷ [])
       ∙ ap₂ _+_ (ap₂ _*_ (sym (holds .claim .rounds)) (total-one (p .cells) i))
@@ -74,13 +74,13 @@ module _ {p : Plan} {s₀ s : CampaignRecord} {h : List Made} {r : Rounds} (o : 
   stands : within (p .denominator) (s .taken) (s .rounds) ≡ true
   unfolding within
   stands =
-      rw (le-leb (s .rounds) 1000 (omega (arith, holds .claim .rounds, run .few)), lt-ltb (s .taken) (p .denominator) (omega (arith, holds .claim .count, run .left)))
-      (by-last (ltb (s .rounds) 1000) refl)
+      rw (le-leb (s .rounds) maxRounds (omega (arith, holds .claim .rounds, run .few)), lt-ltb (s .taken) (p .denominator) (omega (arith, holds .claim .count, run .left)))
+      (by-last (ltb (s .rounds) maxRounds) refl)
     where
-      by-last : (t : Bool) → ltb (s .rounds) 1000 ≡ t → (ltb (s .rounds) 1000 || eqb (s .taken) 0) ≡ true
+      by-last : (t : Bool) → ltb (s .rounds) maxRounds ≡ t → (ltb (s .rounds) maxRounds || eqb (s .taken) 0) ≡ true
       by-last true e = rw e refl
       by-last false e =
-          let done : s .rounds ≡ 1000 = omega (arith, ltb-false (s .rounds) 1000 e, holds .claim .rounds, run .few) in
+          let done : s .rounds ≡ maxRounds = omega (arith, ltb-false (s .rounds) maxRounds e, holds .claim .rounds, run .few) in
           rw (e, eq-eqb (s .taken) 0 (holds .claim .count ∙ run .over (sym (holds .claim .rounds) ∙ done))) refl
 
   -- the record fits the plan, so no draw of a run is answered 9
@@ -210,7 +210,7 @@ module _ {p : Plan} {s₀ s : CampaignRecord} {h : List Made} {r : Rounds} (hold
 
 -- an accepted draw, with the round that it may complete
 module _ {p : Plan} {s₀ s : CampaignRecord} {h : List Made} {r : Rounds} (run : RunHolds p s₀ h r s) (room : roomFor p s₀ ≡ true)
-    (some : 1 ≤ p .denominator) (t : Made) (a : t .answer ≡ Done) (below : t .asked .number < p .denominator) (going : length (r .completed) < 1000)
+    (some : 1 ≤ p .denominator) (t : Made) (a : t .answer ≡ Done) (below : t .asked .number < p .denominator) (going : length (r .completed) < maxRounds)
     (new : used (r .current) (t .asked .number) ≡ false)
     (wrote : take (cellCount p) (t .result) ≡ arrayFor (p .arrays) (t .asked .number)) where
   abbrev counted : ℕ

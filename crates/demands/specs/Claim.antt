@@ -17,7 +17,7 @@ use Rattle.weighted_arrays.specs.Plan.{Plan, cellCount}
 use Rattle.form.specs.Form.{decode}
 use Rattle.opening.specs.Open.{heldTo, Opens}
 use Rattle.drawing.specs.Draw.{drawRefusal, drawnArray}
-use Rattle.records.specs.Record.{CampaignRecord, maxRounds, roomFor}
+use Rattle.records.specs.Record.{CampaignRecord, maxRounds, fits, roomFor}
 use Rattle.bits.specs.Bits.{bitOf, bitBytes}
 use Rattle.campaign_start.specs.Start.{started}
 use Rattle.campaign_draw.specs.Draw.{Asked, Made}
@@ -51,7 +51,7 @@ pub record RoundClaim (p : Plan) (round : List Made) : Type 0 where
   pub bounds : (s : List ℕ) → Member s (heldTo (p .rows) (p .columns))
       → (accepted round * down (p .denominator) (total (p .cells) s) ≤ drawn p round s)
       × (drawn p round s ≤ accepted round * up (p .denominator) (total (p .cells) s))
-  -- beyond the specification: m is at most D, and what the D − m unused numbers hold lies between D − m times the one and D − m times the other
+  -- m is at most D, and what the D − m unused numbers hold lies between D − m times the one and D − m times the other
   pub at-most : accepted round ≤ p .denominator
   pub reserve : (s : List ℕ) → Member s (heldTo (p .rows) (p .columns))
       → ((p .denominator - accepted round) * down (p .denominator) (total (p .cells) s) ≤ unused p round s)
@@ -96,6 +96,8 @@ pub record RunClaim (b : List ℕ) (s₀ : CampaignRecord) (l : List Asked) (p :
   -- over all rounds, what was drawn plus what this round's unused numbers hold is (rounds + 1) times the planned sum
   pub over-all : (s : List ℕ) → drawn p run s + unused p (r .current) s ≡ (length (r .completed) + 1) * total (p .cells) s
   pub after-list : RecordClaim p s₀ run r end
+  -- and the record fits the plan, so that a stored record can be gone on with (`Resumed`)
+  pub still-fits : fits p end ≡ true
 
 -- what every list of draws on the bytes b is held to, after a start with any record long enough
 abbrev pub Held : List ℕ → Type 0

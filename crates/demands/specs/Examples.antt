@@ -7,7 +7,11 @@ use Rattle.base.specs.Lists.{tabulate}
 use Rattle.table.specs.Table.{maxRows, maxColumns, maxDenominator}
 use Rattle.table.specs.Check.{checkedNumber, checkOf}
 use Rattle.weighted_arrays.specs.Plan.{Plan, arrayFor}
+use Rattle.form.specs.Form.{decode}
+use Rattle.form.specs.Examples.{square}
 use Rattle.planning.specs.Rounds.{planOf}
+use Rattle.records.specs.Record.{recordOf}
+use Rattle.demands.specs.Resumed.{numbersDrawn}
 
 -- what an example says of a table: its plan, for each array the weight and then the counts; the arrays that draw numbers 0, 1, .. belong to; or the
 -- number that the table is answered with, 0 where it is taken
@@ -68,3 +72,5 @@ pub record ExamplesHold : Type 0 where
   -- a cell of 1000·D is taken, and one more gives 4
   pub cell-taken : (d : ℕ) → 1 ≤ d → d ≤ maxDenominator → checkedNumber (checkOf 1 1 d ((1000 * d) ∷ [])) ≡ 0
   pub cell-above : (d : ℕ) → 1 ≤ d → d ≤ maxDenominator → checkedNumber (checkOf 1 1 d ((1000 * d + 1) ∷ [])) ≡ 4
+  -- two rounds over D 2 and then number 1: the numbers that the record says were drawn
+  pub numbers-drawn : numbersDrawn (decode square) (recordOf 1 2 (2 ∷ []) (3 ∷ 2 ∷ 2 ∷ 3 ∷ [])) ≡ 0 ∷ 1 ∷ 0 ∷ 1 ∷ 1 ∷ []

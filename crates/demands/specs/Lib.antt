@@ -2,6 +2,7 @@ pub mod Refusals
 pub mod Opening
 pub mod Runs
 pub mod Claim
+pub mod Resumed
 pub mod Plans
 pub mod Pools
 pub mod Numbers

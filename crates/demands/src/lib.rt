@@ -4,7 +4,8 @@
 // Demand 1, that no call runs without end, touches memory that it was not lent, or goes unrefused: being proved means the first two; `refusals` says which
 // refusal each call returns, and `below_zero` that a cell below zero is one; that a refusal leaves every lent buffer as it was is in each call's contract (`after`).
 // Demand 2, that every plan is the specification's: `plans`; that the call writes just this plan is the contract of `plan::plan`. A stored plan opens just if it meets the stated conditions: `opens`.
-// Demand 3, on campaigns: `every_run`, for any plan that opens; and `serves`, for the plan of every accepted table.
+// Demand 3, on campaigns: `every_run` after a start and `resumes` from any record that fits, for any plan that opens; and `serves`, for the plan of every
+// accepted table.
 // What came later: pooling, `pools`; the reasons of weights, `reasons`; variances, in `variances::claims`; the rounding of corrections, in
 // `corrections::claims`, with its refusals here.
 ghost use mathlib.Core.Path.{_≡_};
@@ -31,6 +32,7 @@ ghost use Rattle.pool.specs.Pool.{poolingRefusal, poolRefusal, Lent, pooledInto
 ghost use Rattle.demands.specs.Refusals.{EachRefuses, BelowZeroRefused};
 ghost use Rattle.demands.specs.Opening.{Conditions};
 ghost use Rattle.demands.specs.Claim.{Claim};
+ghost use Rattle.demands.specs.Resumed.{Resumes};
 ghost use Rattle.demands.specs.Plans.{Served};
 ghost use Rattle.demands.specs.Pools.{ServedPool};
 ghost use Rattle.demands.specs.Numbers.{Belonging};
@@ -51,6 +53,8 @@ pub fn claims()
     ensures opens { λ _. ⌜ ((b : List ℕ) → (Opens b → Conditions b) × (Conditions b → Opens b)) ⌝ }
     // every list of draws after a start, on any plan that opens
     ensures every_run { λ _. ⌜ Claim ⌝ }
+    // and every list of draws from a record on that fits, wherever it was stored
+    ensures resumes { λ _. ⌜ ((b : List ℕ) → Opens b → Resumes b) ⌝ }
     // and on what the call "plan" gives for every accepted table, in a buffer with room
     ensures serves { λ _. ⌜ ((r c d : ℕ) (g old new : List ℕ) (p : Planned) → tableRefusal r c d g ≡ none → length (planBytes r c d g) ≤ length old
         → PlanAnswers r c d g old p new → Served r c d g p new) ⌝ }

@@ -3,3 +3,4 @@ pub mod Numbers
 mod Examples
 pub mod Fitting
 pub mod Tallying
+pub mod Holding

@@ -5,6 +5,7 @@ use Rattle.reasons.proofs.Explaining.{every-explained}
 use Rattle.demands.proofs.Lowests.{each-refuses, below-zero-refused}
 use Rattle.demands.proofs.Conditions.{opens-just}
 use Rattle.demands.proofs.Campaigns.{claim}
+use Rattle.demands.proofs.Resuming.{resumes}
 use Rattle.demands.proofs.Serving.{served}
 use Rattle.demands.proofs.Pooled.{served-pool}
 use Rattle.demands.proofs.Sentences.{few-entries, whole-limit}
@@ -27,8 +28,11 @@ returns k = (
           (
             claim,
             (
-              served,
-              (served-pool, (few-entries, (whole-limit, (belonging, (examples-hold, (runs-hold, slips-shut)))))),
+              resumes,
+              (
+                served,
+                (served-pool, (few-entries, (whole-limit, (belonging, (examples-hold, (runs-hold, slips-shut)))))),
+              ),
             ),
           ),
         ),
