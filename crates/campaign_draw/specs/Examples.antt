@@ -1,10 +1,11 @@
 -- Literal cases of a campaign draw (specification, "Campaign record" and "Refusals"); the plans' bytes are typed out. Assumes nothing.
 use mathlib.Core.List.{List, [], _∷_, _++_}
 use Prim.Native.Nat.{ℕ}
+use lib.ListN.{set, replicate}
 use Rattle.refusals.specs.Answer.{answerNumber}
 use Rattle.form.specs.Examples.{square}
 use Rattle.records.specs.Record.{CampaignRecord, recordOf}
-use Rattle.campaign_start.specs.Examples.{heavy, longer, single}
+use Rattle.campaign_start.specs.Examples.{heavy, longer, single, manyNumbers}
 use Rattle.campaign_draw.specs.Draw.{Asked, ask, made}
 
 -- the number of a draw's answer, and what it leaves in the record and in the buffer for the array
@@ -63,6 +64,10 @@ four = 8 ∷ 8 ∷ 8 ∷ 8 ∷ []
 abbrev pub three : List ℕ
 three = 8 ∷ 8 ∷ 8 ∷ []
 
+-- one cell 257 over D 257 with its one array
+abbrev pub someNumbers : List ℕ
+someNumbers = set (set (set (single 1) 9 1) 17 1) 25 1
+
 abbrev pub draws : List Row
 draws =
     does square fresh (ask 0 five) one (0 ∷ 1 ∷ 1 ∷ 0 ∷ 8 ∷ [])
@@ -75,9 +80,19 @@ draws =
     -- the thousandth round
     ∷ does square late (ask 0 four) last (0 ∷ 1 ∷ 1 ∷ 0 ∷ [])
     ∷ does square last (ask 1 four) over (1 ∷ 0 ∷ 0 ∷ 1 ∷ [])
+    -- the 256th round; of 257 numbers the first, the 256th and the last, which completes the round; number 2,048 in byte 256
+    ∷ does (single 1) (recordOf 0 255 (0 ∷ []) (255 ∷ [])) (ask 0 (8 ∷ [])) (recordOf 0 256 (0 ∷ []) (256 ∷ [])) (1 ∷ [])
+    ∷ does someNumbers (recordOf 0 0 (replicate 33 0) (0 ∷ [])) (ask 0 (8 ∷ [])) (recordOf 1 0 (1 ∷ replicate 32 0) (1 ∷ [])) (1 ∷ [])
+    ∷ does someNumbers (recordOf 255 0 (replicate 31 255 ++ (127 ∷ 0 ∷ [])) (255 ∷ [])) (ask 255 (8 ∷ []))
+    (recordOf 256 0 (replicate 32 255 ++ (0 ∷ [])) (256 ∷ [])) (1 ∷ [])
+    ∷ does someNumbers (recordOf 256 0 (replicate 32 255 ++ (0 ∷ [])) (256 ∷ [])) (ask 256 (8 ∷ [])) (recordOf 0 1 (replicate 33 0) (257 ∷ [])) (1 ∷ [])
+    ∷ does manyNumbers (recordOf 0 0 (replicate 257 0) (0 ∷ [])) (ask 2048 (8 ∷ [])) (recordOf 1 0 (replicate 256 0 ++ (1 ∷ [])) (1 ∷ [])) (1 ∷ [])
     -- bytes and numbers beyond those needed stay, and are no part of the record's fit
     ∷ does square (recordOf 0 0 (0 ∷ 6 ∷ []) (0 ∷ 0 ∷ 0 ∷ 0 ∷ 5 ∷ [])) (ask 1 four) (recordOf 1 0 (2 ∷ 6 ∷ []) (1 ∷ 0 ∷ 0 ∷ 1 ∷ 5 ∷ [])) (1 ∷ 0 ∷ 0 ∷ 1 ∷ [])
     ∷ does square (recordOf 1 0 (2 ∷ 6 ∷ []) (1 ∷ 0 ∷ 0 ∷ 1 ∷ 5 ∷ [])) (ask 0 four) (recordOf 0 1 (0 ∷ 6 ∷ []) (1 ∷ 1 ∷ 1 ∷ 1 ∷ 5 ∷ [])) (0 ∷ 1 ∷ 1 ∷ 0 ∷ [])
+    -- buffers of 256 numbers
+    ∷ does square (recordOf 0 0 (0 ∷ replicate 255 6) (0 ∷ 0 ∷ 0 ∷ 0 ∷ replicate 252 5)) (ask 0 (replicate 256 8))
+    (recordOf 1 0 (1 ∷ replicate 255 6) (0 ∷ 1 ∷ 1 ∷ 0 ∷ replicate 252 5)) (0 ∷ 1 ∷ 1 ∷ 0 ∷ replicate 252 8)
     -- number d in bit d mod 8, lowest first, of byte d / 8; a round frees all of them
     ∷ does (single 7) (recordOf 1 0 (1 ∷ []) (1 ∷ [])) (ask 6 (8 ∷ [])) (recordOf 2 0 (65 ∷ []) (2 ∷ [])) (1 ∷ [])
     ∷ does (single 8) (recordOf 1 0 (1 ∷ []) (1 ∷ [])) (ask 7 (8 ∷ [])) (recordOf 2 0 (129 ∷ []) (2 ∷ [])) (1 ∷ [])
@@ -95,12 +110,30 @@ draws =
     ∷ refuses 13 square over (ask 0 four)
     ∷ refuses 10 square one (ask 0 four)
     ∷ refuses 10 square last (ask 0 four)
+    -- 7: 256 bytes where 257 are needed, and one; 8: numbers of which only the low part is below D
+    ∷ refuses 7 manyNumbers (recordOf 0 0 (replicate 256 0) (0 ∷ [])) (ask 0 (8 ∷ []))
+    ∷ refuses 7 manyNumbers (recordOf 0 0 (0 ∷ []) (0 ∷ [])) (ask 0 (8 ∷ []))
+    ∷ refuses 8 square fresh (ask 256 four)
+    ∷ refuses 8 square fresh (ask 65536 four)
+    ∷ refuses 8 square fresh (ask 16777216 four)
+    ∷ refuses 8 square fresh (ask 2147483648 four)
+    ∷ refuses 8 square fresh (ask 4294967295 four)
     -- 9: the count, the tally, a spare bit
     ∷ refuses 9 square unfit (ask 1 four)
     ∷ refuses 9 square (recordOf 1 0 (1 ∷ []) (0 ∷ 1 ∷ 1 ∷ 1 ∷ [])) (ask 1 four)
     ∷ refuses 9 square (recordOf 1 0 (5 ∷ []) (0 ∷ 1 ∷ 1 ∷ 0 ∷ [])) (ask 1 four)
     ∷ refuses 9 (single 7) (recordOf 0 0 (128 ∷ []) (0 ∷ [])) (ask 0 (8 ∷ []))
     ∷ refuses 9 (single 9) (recordOf 0 0 (0 ∷ 2 ∷ []) (0 ∷ [])) (ask 0 (8 ∷ []))
+    -- 9: a count, rounds and a tally of which only the low part is right
+    ∷ refuses 9 square (recordOf 257 0 (1 ∷ []) (0 ∷ 1 ∷ 1 ∷ 0 ∷ [])) (ask 1 four)
+    ∷ refuses 9 square (recordOf 65537 0 (1 ∷ []) (0 ∷ 1 ∷ 1 ∷ 0 ∷ [])) (ask 1 four)
+    ∷ refuses 9 square (recordOf 2147483649 0 (1 ∷ []) (0 ∷ 1 ∷ 1 ∷ 0 ∷ [])) (ask 1 four)
+    ∷ refuses 9 square (recordOf 1 256 (1 ∷ []) (0 ∷ 1 ∷ 1 ∷ 0 ∷ [])) (ask 1 four)
+    ∷ refuses 9 square (recordOf 1 32768 (1 ∷ []) (0 ∷ 1 ∷ 1 ∷ 0 ∷ [])) (ask 1 four)
+    ∷ refuses 9 square (recordOf 1 0 (1 ∷ []) (256 ∷ 1 ∷ 1 ∷ 0 ∷ [])) (ask 1 four)
+    ∷ refuses 9 square (recordOf 1 0 (1 ∷ []) (0 ∷ 65537 ∷ 1 ∷ 0 ∷ [])) (ask 1 four)
+    ∷ refuses 9 square (recordOf 1 0 (1 ∷ []) (0 ∷ 1 ∷ 4294967297 ∷ 0 ∷ [])) (ask 1 four)
+    ∷ refuses 9 square (recordOf 1 0 (1 ∷ []) (0 ∷ 1 ∷ 1 ∷ 4294967296 ∷ [])) (ask 1 four)
     -- 9: more than 1,000 rounds, no number free, a number taken after 1,000 rounds, a tally without the rounds' part or with a round too many
     ∷ refuses 9 square (recordOf 0 1001 (0 ∷ []) (1001 ∷ 1001 ∷ 1001 ∷ 1001 ∷ [])) (ask 0 four)
     ∷ refuses 9 square (recordOf 2 0 (3 ∷ []) (1 ∷ 1 ∷ 1 ∷ 1 ∷ [])) (ask 0 four)

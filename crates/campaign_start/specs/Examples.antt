@@ -1,7 +1,7 @@
 -- Literal cases of a campaign start (specification, "Campaign record" and "Refusals"); the plans' bytes are typed out. Assumes nothing.
 use mathlib.Core.List.{List, [], _∷_, _++_}
 use Prim.Native.Nat.{ℕ}
-use lib.ListN.{set}
+use lib.ListN.{set, replicate}
 use Rattle.refusals.specs.Answer.{answerNumber}
 use Rattle.form.specs.Examples.{square}
 use Rattle.records.specs.Record.{CampaignRecord, recordOf}
@@ -22,6 +22,10 @@ single d =
     ∷ d ∷ 0 ∷ 0 ∷ 0 ∷ 28 ∷ 0 ∷ 0 ∷ 0
     ∷ d ∷ 0 ∷ 0 ∷ 0
     ∷ 1 ∷ 0 ∷ []
+
+-- one cell 2,049 over D 2,049 with its one array: the bits take 257 bytes
+abbrev pub manyNumbers : List ℕ
+manyNumbers = set (set (set (single 1) 9 8) 17 8) 25 8
 
 -- the number of a start's answer, and what it leaves in the record
 pub record Outcome : Type 0 where
@@ -62,12 +66,18 @@ starts =
     ∷ does (single 8) (recordOf 3 2 (255 ∷ []) (9 ∷ [])) (recordOf 0 0 (0 ∷ []) (0 ∷ []))
     ∷ does (single 9) (recordOf 3 2 (255 ∷ 255 ∷ []) (9 ∷ [])) (recordOf 0 0 (0 ∷ 0 ∷ []) (0 ∷ []))
     ∷ does (single 8) (recordOf 3 2 (255 ∷ 255 ∷ []) (9 ∷ [])) (recordOf 0 0 (0 ∷ 255 ∷ []) (0 ∷ []))
+    -- buffers of 256 numbers, and the largest count and rounds
+    ∷ does (single 8) (recordOf 4294967295 65535 (replicate 256 255) (replicate 256 9)) (recordOf 0 0 (0 ∷ replicate 255 255) (0 ∷ replicate 255 9))
+    -- the bits of D 2,049 take 257 bytes
+    ∷ does manyNumbers (recordOf 3 2 (replicate 258 255) (9 ∷ [])) (recordOf 0 0 (replicate 257 0 ++ (255 ∷ [])) (0 ∷ []))
     -- 5, 6 and 7 alone
     ∷ refuses 5 longer any
     ∷ refuses 6 heavy any
     ∷ refuses 7 square noBits
     ∷ refuses 7 square threeTallied
     ∷ refuses 7 (single 9) (recordOf 3 2 (255 ∷ []) (9 ∷ []))
+    ∷ refuses 7 manyNumbers (recordOf 3 2 (replicate 256 255) (9 ∷ []))
+    ∷ refuses 7 manyNumbers (recordOf 3 2 (255 ∷ []) (9 ∷ []))
     -- 5 and 6, 5 and 7, 6 and 7
     ∷ refuses 5 (heavy ++ (0 ∷ [])) any
     ∷ refuses 5 longer noBits

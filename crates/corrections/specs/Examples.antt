@@ -124,6 +124,7 @@ calls =
     ∷ rounds 2 2 2 (minus 1 ∷ pos 0 ∷ pos 1 ∷ pos 1 ∷ []) (eights 4) (minus 1 ∷ pos 0 ∷ pos 1 ∷ pos 0 ∷ [])
     -- what the buffer has beyond the array stays
     ∷ rounds 1 2 4 (minus 4 ∷ minus 6 ∷ []) (pos 8 ∷ pos 8 ∷ pos 9 ∷ minus 7 ∷ []) (minus 1 ∷ minus 2 ∷ pos 9 ∷ minus 7 ∷ [])
+    ∷ rounds 1 2 4 (minus 4 ∷ minus 6 ∷ []) (eights 256) (minus 1 ∷ minus 2 ∷ eights 254)
     -- counts below -255
     ∷ rounds 2 3 1000 (minus 300400 ∷ minus 70 ∷ minus 65936 ∷ minus 1500 ∷ minus 260 ∷ minus 999 ∷ []) (eights 6) (minus 301 ∷ minus 1 ∷ minus 65 ∷ minus 1 ∷ pos 0 ∷ minus 1 ∷ [])
     -- without a cell below 0, as the call "rounding" does
@@ -140,17 +141,29 @@ calls =
     ∷ refuses 1 1 65535 (pos 2147483647 ∷ []) (eights 1) 4
     ∷ refuses 1 2 7 (minus 7000 ∷ minus 7001 ∷ []) (eights 2) 4
     ∷ refuses 1 2 7 (pos 7001 ∷ pos 7000 ∷ []) (eights 2) 4
+    -- cells of which only the third or the fourth byte is not that of a cell within the bounds
+    ∷ refuses 1 1 1 (pos 65536 ∷ []) (eights 1) 4
+    ∷ refuses 1 1 1 (minus 65536 ∷ []) (eights 1) 4
+    ∷ refuses 1 1 1 (pos 16777216 ∷ []) (eights 1) 4
+    ∷ refuses 1 1 1 (minus 16777216 ∷ []) (eights 1) 4
     -- 1: rows, columns
     ∷ refuses 0 1 1 [] (eights 1) 1
     ∷ refuses 13 1 1 (replicate 13 (minus 1)) (eights 13) 1
     ∷ refuses 1 0 1 [] (eights 1) 1
     ∷ refuses 1 13 1 (replicate 13 (minus 1)) (eights 13) 1
+    ∷ refuses 257 1 1 (pos 0 ∷ []) (eights 1) 1
+    ∷ refuses 65537 1 1 (pos 0 ∷ []) (eights 1) 1
+    ∷ refuses 1 257 1 (pos 0 ∷ []) (eights 1) 1
+    ∷ refuses 1 65537 1 (pos 0 ∷ []) (eights 1) 1
     -- 2: the denominator
     ∷ refuses 1 1 0 (pos 0 ∷ []) (eights 1) 2
     ∷ refuses 1 1 65536 (minus 1 ∷ []) (eights 1) 2
-    -- 3: one cell too few, one too many
+    ∷ refuses 1 1 65537 (minus 1 ∷ []) (eights 1) 2
+    ∷ refuses 1 1 16777217 (minus 1 ∷ []) (eights 1) 2
+    -- 3: one cell too few, one too many, 256 too many
     ∷ refuses 2 3 1 (replicate 5 (minus 1)) (eights 6) 3
     ∷ refuses 2 3 1 (replicate 7 (minus 1)) (eights 6) 3
+    ∷ refuses 2 3 1 (replicate 262 (minus 1)) (eights 6) 3
     -- two at once: 1 and 2, 1 and 3, 1 and 4, 2 and 3, 2 and 4, 3 and 4
     ∷ refuses 13 1 0 (replicate 13 (pos 0)) (eights 13) 1
     ∷ refuses 1 13 1 (pos 0 ∷ []) (eights 13) 1

@@ -43,4 +43,14 @@ cases =
     ∷ over (pos 65535000) 65535 (pos 1000) 0
     ∷ over (negsuc 65534999) 65535 (negsuc 999) 0
     ∷ over (negsuc 65535000) 65535 (negsuc 1000) 65534
+    -- numbers and weights of which the low part alone would give another quotient
+    ∷ over (pos 4294967301) 5 (pos 858993460) 1
+    ∷ over (negsuc 4294967300) 5 (negsuc 858993460) 4
+    ∷ over (pos 5) 4294967301 (pos 0) 5
+    ∷ over (negsuc 4) 4294967301 (negsuc 0) 4294967296
+    -- the largest and the least number of 64 bits over 10, and 1 and -1 over the largest weight
+    ∷ over (pos 9223372036854775807) 10 (pos 922337203685477580) 7
+    ∷ over (negsuc 9223372036854775807) 10 (negsuc 922337203685477580) 2
+    ∷ over (pos 1) 18446744073709551615 (pos 0) 1
+    ∷ over (negsuc 0) 18446744073709551615 (negsuc 0) 18446744073709551614
     ∷ []

@@ -1,11 +1,11 @@
 -- Literal cases of draws (specification, "Stored plan, form 1" and "Refusals"); the plans' bytes are typed out. Assumes nothing.
 use mathlib.Core.List.{List, [], _∷_, _++_}
 use Prim.Native.Nat.{ℕ}
-use lib.ListN.{length}
+use lib.ListN.{length, replicate}
 use Rattle.base.specs.Buffers.{written}
 use Rattle.refusals.specs.Answer.{answerNumber}
 use Rattle.refusals.specs.Due.{answerOf, after}
-use Rattle.form.specs.Examples.{wide, recurring}
+use Rattle.form.specs.Examples.{wide, recurring, largest}
 use Rattle.opening.specs.Examples.{oneCell}
 use Rattle.drawing.specs.Draw.{drawRefusal, drawnArray}
 
@@ -56,13 +56,26 @@ drawCases =
     ∷ draws recurring 400 six (300 ∷ 0 ∷ 66 ∷ 2 ∷ 0 ∷ 1 ∷ [])
     ∷ draws recurring 593 six (300 ∷ 0 ∷ 66 ∷ 2 ∷ 0 ∷ 1 ∷ [])
     ∷ draws recurring 594 six (300 ∷ 1 ∷ 66 ∷ 2 ∷ 0 ∷ 0 ∷ [])
+    -- the last number of the largest denominator
+    ∷ draws largest 65534 (8 ∷ []) (1000 ∷ [])
     -- what the buffer has beyond the array stays
     ∷ draws wide 0 (8 ∷ 8 ∷ 8 ∷ 8 ∷ 8 ∷ 8 ∷ 9 ∷ 7 ∷ []) (300 ∷ 0 ∷ 66 ∷ 1 ∷ 1 ∷ 1 ∷ 9 ∷ 7 ∷ [])
+    ∷ draws wide 0 (replicate 256 8) (300 ∷ 0 ∷ 66 ∷ 1 ∷ 1 ∷ 1 ∷ replicate 250 8)
     -- 5, 6, 7 and 8 alone
     ∷ refuses (wide ++ (0 ∷ [])) 0 six 5
     ∷ refuses (oneCell 2 0 1 0) 0 six 6
     ∷ refuses wide 0 five 7
     ∷ refuses wide 1000 six 8
+    -- 8: numbers of which only the low part is below D
+    ∷ refuses wide 1024 six 8
+    ∷ refuses wide 65536 six 8
+    ∷ refuses wide 66130 six 8
+    ∷ refuses wide 16777216 six 8
+    ∷ refuses wide 2147483648 six 8
+    ∷ refuses wide 4294967295 six 8
+    ∷ refuses largest 65535 (8 ∷ []) 8
+    ∷ refuses largest 65536 (8 ∷ []) 8
+    ∷ refuses largest 4294967295 (8 ∷ []) 8
     -- two of them: 5 and 7, 5 and 8, 6 and 7, 6 and 8, 7 and 8
     ∷ refuses (wide ++ (0 ∷ [])) 0 five 5
     ∷ refuses (wide ++ (0 ∷ [])) 1000 six 5

@@ -83,6 +83,19 @@ recurring =
     ∷ 45 ∷ 1 ∷ 0 ∷ 0 ∷ 66 ∷ 0 ∷ 1 ∷ 0 ∷ 1 ∷ 0 ∷ 1 ∷ 0
     ∷ 45 ∷ 1 ∷ 1 ∷ 0 ∷ 65 ∷ 0 ∷ 1 ∷ 0 ∷ 0 ∷ 0 ∷ 1 ∷ 0 ∷ []
 
+-- one cell, the shortest plan: D, the weight, the cell and the count are the largest that there are, and the cell takes four bytes
+abbrev pub largest : List ℕ
+largest =
+    -- form, r, c, K, zero
+    1 ∷ 0 ∷ 1 ∷ 1 ∷ 1 ∷ 0 ∷ 0 ∷ 0
+    -- D and the offset of the table
+    ∷ 255 ∷ 255 ∷ 0 ∷ 0 ∷ 24 ∷ 0 ∷ 0 ∷ 0
+    -- weight and offset of the array
+    ∷ 255 ∷ 255 ∷ 0 ∷ 0 ∷ 28 ∷ 0 ∷ 0 ∷ 0
+    -- the table and the array
+    ∷ 24 ∷ 252 ∷ 231 ∷ 3
+    ∷ 232 ∷ 3 ∷ []
+
 abbrev pub withWeight : ℕ → List ℕ → Weighted
 withWeight w n = record { weight = w; counts = n }
 
@@ -147,5 +160,9 @@ stored =
             ∷ withWeight 64 (301 ∷ 1 ∷ 65 ∷ 1 ∷ 0 ∷ 1 ∷ [])
             ∷ [];
       };
+    }
+    ∷ record {
+      bytes = largest;
+      plan = record { rows = 1; columns = 1; denominator = 65535; cells = 65535000 ∷ []; arrays = withWeight 65535 (1000 ∷ []) ∷ [] };
     }
     ∷ []

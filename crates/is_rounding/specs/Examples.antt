@@ -27,6 +27,9 @@ candidates =
     ∷ record { counts = 0 ∷ 0 ∷ 1 ∷ 2 ∷ 0 ∷ 1 ∷ []; rounds = false }
     ∷ record { counts = 1 ∷ 0 ∷ 0 ∷ 2 ∷ 1 ∷ 0 ∷ []; rounds = false }
     ∷ record { counts = 1 ∷ 0 ∷ 1 ∷ 2 ∷ 1 ∷ 1 ∷ []; rounds = false }
+    -- a count of which only the low part is right
+    ∷ record { counts = 256 ∷ 0 ∷ 1 ∷ 2 ∷ 1 ∷ 0 ∷ []; rounds = false }
+    ∷ record { counts = 0 ∷ 0 ∷ 1 ∷ 2 ∷ 1 ∷ 65536 ∷ []; rounds = false }
     -- one count too few, one too many
     ∷ record { counts = 0 ∷ 0 ∷ 1 ∷ 2 ∷ 1 ∷ []; rounds = false }
     ∷ record { counts = 0 ∷ 0 ∷ 1 ∷ 2 ∷ 1 ∷ 0 ∷ 0 ∷ []; rounds = false }

@@ -1,13 +1,13 @@
 -- Literal cases of the calls that tell a plan's sizes, cells and arrays; the plan's bytes are typed out. Assumes nothing.
 use mathlib.Core.List.{List, [], _∷_}
 use Prim.Native.Nat.{ℕ}
-use lib.ListN.{length}
+use lib.ListN.{length, replicate}
 use Rattle.base.specs.Buffers.{written}
 use Rattle.refusals.specs.Answer.{answerNumber}
 use Rattle.refusals.specs.Due.{answerOf, after}
 use Rattle.weighted_arrays.specs.Plan.{cellCount}
 use Rattle.form.specs.Form.{decode}
-use Rattle.form.specs.Examples.{wide}
+use Rattle.form.specs.Examples.{wide, largest}
 use Rattle.opening.specs.Examples.{longer, heavy}
 use Rattle.plan_parts.specs.Sizes.{sizeNumbers}
 use Rattle.opening.specs.Open.{partRefusal}
@@ -38,6 +38,8 @@ abbrev pub sizeCases : List Case
 sizeCases =
     tells wide (8 ∷ 8 ∷ 8 ∷ 8 ∷ []) (2 ∷ 3 ∷ 7 ∷ 1000 ∷ [])
     ∷ tells wide (8 ∷ 8 ∷ 8 ∷ 8 ∷ 9 ∷ []) (2 ∷ 3 ∷ 7 ∷ 1000 ∷ 9 ∷ [])
+    ∷ tells wide (replicate 256 8) (2 ∷ 3 ∷ 7 ∷ 1000 ∷ replicate 252 8)
+    ∷ tells largest (8 ∷ 8 ∷ 8 ∷ 8 ∷ []) (1 ∷ 1 ∷ 1 ∷ 65535 ∷ [])
     ∷ refuses wide (8 ∷ 8 ∷ 8 ∷ []) 7
     ∷ refuses longer (8 ∷ 8 ∷ 8 ∷ 8 ∷ []) 5
     ∷ refuses heavy (8 ∷ 8 ∷ 8 ∷ 8 ∷ []) 6
@@ -55,6 +57,8 @@ abbrev pub cellCases : List Case
 cellCases =
     tells wide (8 ∷ 8 ∷ 8 ∷ 8 ∷ 8 ∷ 8 ∷ []) (300400 ∷ 70 ∷ 65936 ∷ 1500 ∷ 260 ∷ 999 ∷ [])
     ∷ tells wide (8 ∷ 8 ∷ 8 ∷ 8 ∷ 8 ∷ 8 ∷ 9 ∷ []) (300400 ∷ 70 ∷ 65936 ∷ 1500 ∷ 260 ∷ 999 ∷ 9 ∷ [])
+    ∷ tells wide (replicate 256 8) (300400 ∷ 70 ∷ 65936 ∷ 1500 ∷ 260 ∷ 999 ∷ replicate 250 8)
+    ∷ tells largest (8 ∷ []) (65535000 ∷ [])
     ∷ refuses wide (8 ∷ 8 ∷ 8 ∷ 8 ∷ 8 ∷ []) 7
     ∷ refuses longer (8 ∷ 8 ∷ 8 ∷ 8 ∷ 8 ∷ 8 ∷ []) 5
     ∷ refuses heavy (8 ∷ 8 ∷ 8 ∷ 8 ∷ 8 ∷ 8 ∷ []) 6
@@ -95,9 +99,15 @@ arrayCases =
     ∷ tellsArray wide 2 enough (buffers (494 ∷ []) (300 ∷ 0 ∷ 66 ∷ 2 ∷ 0 ∷ 1 ∷ []))
     -- the last one, with longer buffers, whose rest stays
     ∷ tellsArray wide 7 (buffers (8 ∷ 9 ∷ []) (8 ∷ 8 ∷ 8 ∷ 8 ∷ 8 ∷ 8 ∷ 9 ∷ [])) (buffers (64 ∷ 9 ∷ []) (301 ∷ 1 ∷ 65 ∷ 1 ∷ 0 ∷ 1 ∷ 9 ∷ []))
-    -- no array 0, none above the last
+    ∷ tellsArray wide 2 (buffers (replicate 256 8) (replicate 256 8)) (buffers (494 ∷ replicate 255 8) (300 ∷ 0 ∷ 66 ∷ 2 ∷ 0 ∷ 1 ∷ replicate 250 8))
+    ∷ tellsArray largest 1 (buffers (8 ∷ []) (8 ∷ [])) (buffers (65535 ∷ []) (1000 ∷ []))
+    -- no array 0, none above the last, and none of which only the low part is a number of an array
     ∷ refusesArray wide 0 enough 14
     ∷ refusesArray wide 8 enough 14
+    ∷ refusesArray wide 257 enough 14
+    ∷ refusesArray wide 65537 enough 14
+    ∷ refusesArray wide 16777217 enough 14
+    ∷ refusesArray wide 2147483649 enough 14
     ∷ refusesArray wide 4294967295 enough 14
     -- no room for the weight, or for the counts
     ∷ refusesArray wide 1 (buffers [] (8 ∷ 8 ∷ 8 ∷ 8 ∷ 8 ∷ 8 ∷ [])) 7

@@ -25,4 +25,8 @@ limits =
     ∷ limitIs 10 23 3 3
     ∷ limitIs 10 20 2 10
     ∷ limitIs 10 0 0 10
+    -- entries above 2^32
+    ∷ limitIs 10 4294967313 429496731 7
+    ∷ limitIs 10 4294967313 429496732 3
+    ∷ limitIs 65535 9437040000 144000 65535
     ∷ []

@@ -80,22 +80,46 @@ cases =
     ∷ refuses 1 1 (over 10 (8998 ∷ [])) (over 4 (401 ∷ [])) one 12
     -- the largest
     ∷ pools 1 1 (over 65535 (65535000 ∷ [])) (over 1 (0 ∷ [])) one (lent (65535 ∷ []) (65535000 ∷ []))
+    -- 12: twice the largest; of two pooled cells the second alone, the first alone
+    ∷ refuses 1 1 (over 65535 (65535000 ∷ [])) (over 1 (1000 ∷ [])) one 12
+    ∷ refuses 1 2 (over 1 (0 ∷ 600 ∷ [])) (over 1 (0 ∷ 600 ∷ [])) two 12
+    ∷ refuses 1 2 (over 1 (600 ∷ 0 ∷ [])) (over 1 (600 ∷ 0 ∷ [])) two 12
+    -- buffers of 256 numbers
+    ∷ pools 1 2 (over 10 (3 ∷ 4 ∷ [])) (over 4 (1 ∷ 2 ∷ [])) (lent (replicate 256 8) (replicate 256 8))
+    (lent (20 ∷ replicate 255 8) (11 ∷ 18 ∷ replicate 254 8))
     -- 7: either buffer
     ∷ refuses 1 2 (over 10 (3 ∷ 4 ∷ [])) (over 4 (1 ∷ 2 ∷ [])) (lent [] (8 ∷ 8 ∷ [])) 7
     ∷ refuses 1 2 (over 10 (3 ∷ 4 ∷ [])) (over 4 (1 ∷ 2 ∷ [])) one 7
     -- 1
     ∷ refuses 13 1 (zeros 1) (zeros 1) thirteen 1
     ∷ refuses 1 0 (over 1 []) (over 1 []) (lent (8 ∷ []) []) 1
+    -- rows and columns of which only the low part is within the bounds
+    ∷ refuses 257 1 (over 1 (0 ∷ [])) (over 1 (0 ∷ [])) one 1
+    ∷ refuses 65537 1 (over 1 (0 ∷ [])) (over 1 (0 ∷ [])) one 1
+    ∷ refuses 1 257 (over 1 (0 ∷ [])) (over 1 (0 ∷ [])) one 1
+    ∷ refuses 1 65537 (over 1 (0 ∷ [])) (over 1 (0 ∷ [])) one 1
     -- 2, 3 and 4: either part; a cell of 1000 times its own denominator is taken
     ∷ refuses 1 1 (over 0 (0 ∷ [])) (over 1 (0 ∷ [])) one 2
     ∷ refuses 1 1 (over 1 (0 ∷ [])) (over 0 (0 ∷ [])) one 2
     ∷ refuses 1 1 (over 65536 (0 ∷ [])) (over 1 (0 ∷ [])) one 2
     ∷ refuses 1 1 (over 1 (0 ∷ [])) (over 65536 (0 ∷ [])) one 2
+    ∷ refuses 1 1 (over 65537 (0 ∷ [])) (over 1 (0 ∷ [])) one 2
+    ∷ refuses 1 1 (over 1 (0 ∷ [])) (over 65537 (0 ∷ [])) one 2
+    ∷ refuses 1 1 (over 131071 (0 ∷ [])) (over 1 (0 ∷ [])) one 2
+    ∷ refuses 1 1 (over 1 (0 ∷ [])) (over 131071 (0 ∷ [])) one 2
     ∷ refuses 1 2 (over 1 (0 ∷ [])) (over 1 (0 ∷ 0 ∷ [])) two 3
     ∷ refuses 1 2 (over 1 (0 ∷ 0 ∷ [])) (over 1 (0 ∷ 0 ∷ 0 ∷ [])) two 3
+    ∷ refuses 1 2 (over 1 (replicate 258 0)) (over 1 (0 ∷ 0 ∷ [])) two 3
+    ∷ refuses 1 2 (over 1 (0 ∷ 0 ∷ [])) (over 1 (replicate 258 0)) two 3
     ∷ pools 1 1 (over 7 (7000 ∷ [])) (over 1 (0 ∷ [])) one (lent (7 ∷ []) (7000 ∷ []))
     ∷ refuses 1 1 (over 7 (7001 ∷ [])) (over 1 (0 ∷ [])) one 4
     ∷ refuses 1 1 (over 1 (0 ∷ [])) (over 7 (7001 ∷ [])) one 4
+    ∷ refuses 1 1 (over 1 (65536 ∷ [])) (over 1 (0 ∷ [])) one 4
+    ∷ refuses 1 1 (over 1 (0 ∷ [])) (over 1 (65536 ∷ [])) one 4
+    ∷ refuses 1 1 (over 1 (16777216 ∷ [])) (over 1 (0 ∷ [])) one 4
+    ∷ refuses 1 1 (over 1 (0 ∷ [])) (over 1 (16777216 ∷ [])) one 4
+    ∷ refuses 1 2 (over 1 (0 ∷ 1001 ∷ [])) (over 1 (0 ∷ 0 ∷ [])) two 4
+    ∷ refuses 1 2 (over 1 (0 ∷ 0 ∷ [])) (over 1 (0 ∷ 1001 ∷ [])) two 4
     -- two at once: 1 with each of 2, 3, 4, 11, 12 and 7
     ∷ refuses 13 1 (zeros 1) (zeros 0) thirteen 1
     ∷ refuses 1 13 (over 1 (0 ∷ [])) (over 1 (0 ∷ [])) thirteen 1

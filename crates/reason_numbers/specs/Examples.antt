@@ -64,10 +64,27 @@ calls =
     -- a longer buffer, whose rest stays, and one of three numbers: 7
     ∷ record { rows = 2; columns = 2; denominator = 10; cells = small; array = 1; buffer = 8 ∷ 8 ∷ 8 ∷ 8 ∷ 9 ∷ []; number = 0; result = 3 ∷ 0 ∷ 1 ∷ 1 ∷ 9 ∷ [] }
     ∷ refuses 2 2 10 small 1 (8 ∷ 8 ∷ 8 ∷ []) 7
-    -- 14: array 0, one above the last, and the largest number; and with 7
+    -- a buffer of 256 numbers
+    ∷ record {
+      rows = 1;
+      columns = 1;
+      denominator = 5;
+      cells = 10 ∷ [];
+      array = 1;
+      buffer = replicate 256 8;
+      number = 0;
+      result = 1 ∷ 1 ∷ 1 ∷ 0 ∷ replicate 252 8;
+    }
+    -- 14: array 0, one above the last, and the largest number
     ∷ refuses 2 2 10 small 0 (8 ∷ 8 ∷ 8 ∷ 8 ∷ []) 14
     ∷ refuses 2 2 10 small 5 (8 ∷ 8 ∷ 8 ∷ 8 ∷ []) 14
     ∷ refuses 2 2 10 small 4294967295 (8 ∷ 8 ∷ 8 ∷ 8 ∷ []) 14
+    -- numbers of which only the low part is a number of an array
+    ∷ refuses 2 2 10 small 257 (8 ∷ 8 ∷ 8 ∷ 8 ∷ []) 14
+    ∷ refuses 2 2 10 small 65537 (8 ∷ 8 ∷ 8 ∷ 8 ∷ []) 14
+    ∷ refuses 2 2 10 small 16777217 (8 ∷ 8 ∷ 8 ∷ 8 ∷ []) 14
+    ∷ refuses 2 2 10 small 2147483649 (8 ∷ 8 ∷ 8 ∷ 8 ∷ []) 14
+    -- with 7
     ∷ refuses 2 2 10 small 5 (8 ∷ 8 ∷ 8 ∷ []) 14
     -- 1, 2, 3 and 4, each with 14 and 7
     ∷ refuses 13 1 1 (replicate 13 0) 0 [] 1
@@ -76,4 +93,11 @@ calls =
     ∷ refuses 1 1 1 (1001 ∷ []) 0 [] 4
     -- and with 7 alone
     ∷ refuses 1 1 1 (1001 ∷ []) 1 [] 4
+    -- rows, columns, denominators and cells of which only the low part is within the bounds
+    ∷ refuses 257 1 1 (0 ∷ []) 1 (8 ∷ 8 ∷ 8 ∷ 8 ∷ []) 1
+    ∷ refuses 65537 1 1 (0 ∷ []) 1 (8 ∷ 8 ∷ 8 ∷ 8 ∷ []) 1
+    ∷ refuses 1 257 1 (0 ∷ []) 1 (8 ∷ 8 ∷ 8 ∷ 8 ∷ []) 1
+    ∷ refuses 1 65537 1 (0 ∷ []) 1 (8 ∷ 8 ∷ 8 ∷ 8 ∷ []) 1
+    ∷ refuses 1 1 65537 (0 ∷ []) 1 (8 ∷ 8 ∷ 8 ∷ 8 ∷ []) 2
+    ∷ refuses 1 1 1 (65536 ∷ []) 1 (8 ∷ 8 ∷ 8 ∷ 8 ∷ []) 4
     ∷ []

@@ -44,8 +44,18 @@ roundCases =
     rounds 2 3 10 table six (0 ∷ 0 ∷ 1 ∷ 2 ∷ 1 ∷ 0 ∷ [])
     -- what the buffer has beyond the array stays
     ∷ rounds 1 2 4 (4 ∷ 6 ∷ []) (8 ∷ 8 ∷ 9 ∷ 7 ∷ []) (1 ∷ 1 ∷ 9 ∷ 7 ∷ [])
+    ∷ rounds 1 2 4 (4 ∷ 6 ∷ []) (replicate 256 8) (1 ∷ 1 ∷ replicate 254 8)
     -- counts above 255
     ∷ rounds 2 3 1000 (300400 ∷ 70 ∷ 65936 ∷ 1500 ∷ 260 ∷ 999 ∷ []) six (300 ∷ 0 ∷ 66 ∷ 1 ∷ 1 ∷ 1 ∷ [])
+    -- the largest denominator, cell and count
+    ∷ rounds 1 1 65535 (65535000 ∷ []) (8 ∷ []) (1000 ∷ [])
+    -- rows, columns, denominators and cells of which only the low part is within the bounds
+    ∷ refuses 257 1 1 (0 ∷ []) (8 ∷ []) 1
+    ∷ refuses 65537 1 1 (0 ∷ []) (8 ∷ []) 1
+    ∷ refuses 1 257 1 (0 ∷ []) (8 ∷ []) 1
+    ∷ refuses 1 65537 1 (0 ∷ []) (8 ∷ []) 1
+    ∷ refuses 1 1 65537 (0 ∷ []) (8 ∷ []) 2
+    ∷ refuses 1 1 1 (65536 ∷ []) (8 ∷ []) 4
     -- 7 alone, and with each of 1, 2, 3 and 4
     ∷ refuses 2 3 10 table five 7
     ∷ refuses 2 3 10 table [] 7

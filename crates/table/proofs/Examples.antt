@@ -6,7 +6,7 @@ use Rattle.refusals.specs.Due.{due}
 use Rattle.table.specs.Table.{entryPlaces, total, entries}
 use Rattle.table.specs.Whole.{whole, gap, roundsTo}
 use Rattle.table.specs.Check.{checkOfCells, checkOf}
-use Rattle.table.specs.Examples.{cases, checked, rounded, roundedOf}
+use Rattle.table.specs.Examples.{cases, checked, rounded, roundedOf, full, fullEntries}
 
 pub checks-hold : map checked cases ≡ map (λ x. x .number) cases
 unfolding checkOf checkOfCells due all
@@ -19,3 +19,7 @@ entries-hold = refl
 pub rounded-hold : map (λ x. roundedOf (x .entry)) rounded ≡ rounded
 unfolding roundsTo whole gap
 rounded-hold = refl
+
+pub largest-hold : entries 12 12 full ≡ fullEntries
+unfolding entries entryPlaces total tabulate sum
+largest-hold = refl

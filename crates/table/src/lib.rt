@@ -6,7 +6,7 @@ ghost use Prim.Native.Nat.{ℕ};
 ghost use Rattle.refusals.specs.declared.Refusal.the-variants.{LargeCell};
 ghost use Rattle.table.specs.Table.{maxRows, maxColumns, maxArrays, maxDenominator, maxExpected, maxCells, entries};
 ghost use Rattle.table.specs.Check.{BelowZero, tableRefusal};
-ghost use Rattle.table.specs.Examples.{cases, checked, rounded, roundedOf};
+ghost use Rattle.table.specs.Examples.{cases, checked, rounded, roundedOf, full, fullEntries};
 
 pub mod check;
 pub mod sums;
@@ -54,10 +54,11 @@ pub fn bounds()
 {}
 
 // A cell below zero is 4, whatever the table, where none of 1 to 3 applies. And the literal cases are as stated: refusals 1 to 4 and each two of them at once,
-// the order of the entries, and the rounding of one entry.
+// the order of the entries, the rounding of one entry, and the largest entries.
 pub fn claims()
     ensures below_zero { λ _. ⌜ ((r c d : ℕ) (g : List ℕ) → BelowZero r c d g → tableRefusal r c d g ≡ some LargeCell) ⌝ }
     ensures checks { λ _. ⌜ map checked cases ≡ map (λ x. x .number) cases ⌝ }
     ensures entries { λ _. ⌜ entries 2 3 (1 ∷ 2 ∷ 3 ∷ 40 ∷ 50 ∷ 60 ∷ []) ≡ 1 ∷ 2 ∷ 3 ∷ 40 ∷ 50 ∷ 60 ∷ 6 ∷ 150 ∷ 41 ∷ 52 ∷ 63 ∷ 156 ∷ [] ⌝ }
     ensures rounded { λ _. ⌜ map (λ x. roundedOf (x .entry)) rounded ≡ rounded ⌝ }
+    ensures largest { λ _. ⌜ entries 12 12 full ≡ fullEntries ⌝ }
 {}
