@@ -71,7 +71,7 @@ mod tests {
     #[test]
     fn literal_texts_are_read_or_refused() {
         for (number, row) in numbered(&parses()) {
-            let found = read_numbers(row.text.as_bytes());
+            let found = read_numbers(&row.text);
             assert_eq!(found, row.numbers, "row {number}: {row:?}");
         }
     }

@@ -21,7 +21,7 @@ pub fn outputs(calls: &mut Calls) -> Result<(), Difference> {
 /// A text is refused exactly if no numbers are read from it.
 pub fn texts(calls: &mut Calls) -> Result<(), Difference> {
     over_rows(&parses(), |row| {
-        let print = compare_text(calls, row.text.as_bytes())?;
+        let print = compare_text(calls, &row.text)?;
         let refused = print.output == REFUSED.as_bytes();
         require(refused == row.numbers.is_none(), || {
             format!("both print {:?}\n", String::from_utf8_lossy(&print.output))

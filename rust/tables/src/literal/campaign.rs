@@ -55,6 +55,16 @@ pub(super) fn single(denominator: u8) -> Vec<u8> {
     one_cell(denominator, denominator, denominator, 1)
 }
 
+/// One cell 2,049 over D 2,049 with its one array: the bits take 257 bytes.
+fn many_numbers() -> Vec<u8> {
+    changed(&single(1), &[(9, 8), (17, 8), (25, 8)])
+}
+
+/// One cell 257 over D 257 with its one array.
+fn some_numbers() -> Vec<u8> {
+    changed(&single(1), &[(9, 1), (17, 1), (25, 1)])
+}
+
 /// A record of the square campaign before a start.
 pub fn any() -> Record {
     record(7, 1001, &[255, 6], &[1, 2, 3, 4, 5])
@@ -132,12 +142,31 @@ pub fn starts() -> Vec<Start> {
         starts_with(&single(8), held(&[255]), record(0, 0, &[0], &[0])),
         starts_with(&single(9), held(&[255, 255]), record(0, 0, &[0, 0], &[0])),
         starts_with(&single(8), held(&[255, 255]), record(0, 0, &[0, 255], &[0])),
+        // buffers of 256 numbers, and the largest count and rounds
+        starts_with(
+            &single(8),
+            record(4_294_967_295, 65_535, &[255; 256], &[9; 256]),
+            record(
+                0,
+                0,
+                &[&[0][..], &[255; 255]].concat(),
+                &[&[0][..], &[9; 255]].concat(),
+            ),
+        ),
+        // the bits of D 2,049 take 257 bytes
+        starts_with(
+            &many_numbers(),
+            held(&[255; 258]),
+            record(0, 0, &[&[0; 257][..], &[255]].concat(), &[0]),
+        ),
         // 5, 6 and 7 alone
         refuses_start(5, &long, any()),
         refuses_start(6, &heavy, any()),
         refuses_start(7, SQUARE, no_bits()),
         refuses_start(7, SQUARE, three_tallied()),
         refuses_start(7, &single(9), held(&[255])),
+        refuses_start(7, &many_numbers(), held(&[255; 256])),
+        refuses_start(7, &many_numbers(), held(&[255])),
         // 5 and 6, 5 and 7, 6 and 7
         refuses_start(5, &longer(&heavy), any()),
         refuses_start(5, &long, no_bits()),
@@ -184,6 +213,14 @@ fn accepted_draws() -> Vec<Draw> {
     let twice = |bits: &[u8]| -> Left { (record(2, 0, bits, &[2]), &[1]) };
     let eight = record(8, 4, &[255, 0], &[44]);
     let round_of_nine = record(0, 5, &[0, 0], &[45]);
+    let none_of_257 = record(0, 0, &[0; 33], &[0]);
+    let one_of_257 = record(1, 0, &[&[1][..], &[0; 32]].concat(), &[1]);
+    let one_left = record(256, 0, &[&[255; 32][..], &[0]].concat(), &[256]);
+    let all_of_257 = record(0, 1, &[0; 33], &[257]);
+    let long = |taken: u32, first: u8, tally: [u64; 4]| {
+        let bits = [&[first][..], &[6; 255]].concat();
+        record(taken, 0, &bits, &[&tally[..], &[5; 252]].concat())
+    };
     vec![
         draws_with(SQUARE, fresh(), 0, FIVE, (one(), &[0, 1, 1, 0, 8])),
         // the last free number completes the round; the next round begins, and in it 0 is
@@ -196,6 +233,25 @@ fn accepted_draws() -> Vec<Draw> {
         // the thousandth round
         draws_with(SQUARE, late(), 0, FOUR, (last(), &[0, 1, 1, 0])),
         draws_with(SQUARE, last(), 1, FOUR, (over(), &[1, 0, 0, 1])),
+        // the 256th round; of 257 numbers the first, the 256th and the last, which completes
+        // the round; number 2,048 in byte 256
+        draws_with(&single(1), alone(255), 0, ONE, (alone(256), &[1])),
+        draws_with(&some_numbers(), none_of_257, 0, ONE, (one_of_257, &[1])),
+        draws_with(
+            &some_numbers(),
+            record(255, 0, &[&[255; 31][..], &[127, 0]].concat(), &[255]),
+            255,
+            ONE,
+            (one_left.clone(), &[1]),
+        ),
+        draws_with(&some_numbers(), one_left, 256, ONE, (all_of_257, &[1])),
+        draws_with(
+            &many_numbers(),
+            record(0, 0, &[0; 257], &[0]),
+            2048,
+            ONE,
+            (record(1, 0, &[&[0; 256][..], &[1]].concat(), &[1]), &[1]),
+        ),
         // bytes and numbers beyond those needed stay, and are no part of the record's fit
         draws_with(
             SQUARE,
@@ -205,6 +261,17 @@ fn accepted_draws() -> Vec<Draw> {
             (taken_beyond.clone(), &[1, 0, 0, 1]),
         ),
         draws_with(SQUARE, taken_beyond, 0, FOUR, (round_beyond, &[0, 1, 1, 0])),
+        // buffers of 256 numbers
+        draws_with(
+            SQUARE,
+            long(0, 0, [0, 0, 0, 0]),
+            0,
+            &[8; 256],
+            (
+                long(1, 1, [0, 1, 1, 0]),
+                &[&[0, 1, 1, 0][..], &[8; 252]].concat(),
+            ),
+        ),
         // number d in bit d mod 8, lowest first, of byte d / 8; a round frees all of them
         draws_with(&single(7), taken(&[1]), 6, ONE, twice(&[65])),
         draws_with(&single(8), taken(&[1]), 7, ONE, twice(&[129])),
@@ -215,6 +282,7 @@ fn accepted_draws() -> Vec<Draw> {
 }
 
 fn refused_draws() -> Vec<Draw> {
+    let after_zero = |taken, rounds, tally: [u64; 4]| record(taken, rounds, &[1], &tally);
     vec![
         // 5, 6, 7 (bits, tally, array), 8, 13 and 10 alone
         refuses(5, &longer(SQUARE), fresh(), 0, FOUR),
@@ -227,12 +295,49 @@ fn refused_draws() -> Vec<Draw> {
         refuses(13, SQUARE, over(), 0, FOUR),
         refuses(10, SQUARE, one(), 0, FOUR),
         refuses(10, SQUARE, last(), 0, FOUR),
+        // 7: 256 bytes where 257 are needed, and one; 8: numbers of which only the low part
+        // is below D
+        refuses(7, &many_numbers(), record(0, 0, &[0; 256], &[0]), 0, ONE),
+        refuses(7, &many_numbers(), record(0, 0, &[0], &[0]), 0, ONE),
+        refuses(8, SQUARE, fresh(), 256, FOUR),
+        refuses(8, SQUARE, fresh(), 65_536, FOUR),
+        refuses(8, SQUARE, fresh(), 16_777_216, FOUR),
+        refuses(8, SQUARE, fresh(), 2_147_483_648, FOUR),
+        refuses(8, SQUARE, fresh(), 4_294_967_295, FOUR),
         // 9: the count, the tally, a spare bit
         refuses(9, SQUARE, unfit(), 1, FOUR),
         refuses(9, SQUARE, record(1, 0, &[1], &[0, 1, 1, 1]), 1, FOUR),
         refuses(9, SQUARE, record(1, 0, &[5], &[0, 1, 1, 0]), 1, FOUR),
         refuses(9, &single(7), record(0, 0, &[128], &[0]), 0, ONE),
         refuses(9, &single(9), record(0, 0, &[0, 2], &[0]), 0, ONE),
+        // 9: a count, rounds and a tally of which only the low part is right
+        refuses(9, SQUARE, after_zero(257, 0, [0, 1, 1, 0]), 1, FOUR),
+        refuses(9, SQUARE, after_zero(65_537, 0, [0, 1, 1, 0]), 1, FOUR),
+        refuses(
+            9,
+            SQUARE,
+            after_zero(2_147_483_649, 0, [0, 1, 1, 0]),
+            1,
+            FOUR,
+        ),
+        refuses(9, SQUARE, after_zero(1, 256, [0, 1, 1, 0]), 1, FOUR),
+        refuses(9, SQUARE, after_zero(1, 32_768, [0, 1, 1, 0]), 1, FOUR),
+        refuses(9, SQUARE, after_zero(1, 0, [256, 1, 1, 0]), 1, FOUR),
+        refuses(9, SQUARE, after_zero(1, 0, [0, 65_537, 1, 0]), 1, FOUR),
+        refuses(
+            9,
+            SQUARE,
+            after_zero(1, 0, [0, 1, 4_294_967_297, 0]),
+            1,
+            FOUR,
+        ),
+        refuses(
+            9,
+            SQUARE,
+            after_zero(1, 0, [0, 1, 1, 4_294_967_296]),
+            1,
+            FOUR,
+        ),
         // 9: more than 1,000 rounds, no number free, a number taken after 1,000 rounds, a
         // tally without the rounds' part or with a round too many
         refuses(9, SQUARE, record(0, 1001, &[0], &[1001; 4]), 0, FOUR),

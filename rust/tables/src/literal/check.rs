@@ -28,17 +28,39 @@ pub fn cases() -> Vec<Case> {
         gives(1, 12, 1, &[0; 12], 0),
         gives(1, 0, 1, &[], 1),
         gives(1, 13, 1, &[0; 13], 1),
+        // 12 of each, and rows and columns of which only the low part is within the bound
+        gives(12, 12, 1, &[0; 144], 0),
+        gives(257, 1, 1, &[0], 1),
+        gives(65_537, 1, 1, &[0], 1),
+        gives(16_777_217, 1, 1, &[0], 1),
+        gives(2_147_483_649, 1, 1, &[0], 1),
+        gives(1, 257, 1, &[0], 1),
+        gives(1, 65_537, 1, &[0], 1),
+        gives(1, 16_777_217, 1, &[0], 1),
+        gives(1, 2_147_483_649, 1, &[0], 1),
         // 2: the denominator
         gives(1, 1, 65_535, &[0], 0),
         gives(1, 1, 0, &[0], 2),
         gives(1, 1, 65_536, &[0], 2),
-        // 3: one cell too few, one too many
+        gives(1, 1, 65_537, &[0], 2),
+        gives(1, 1, 131_071, &[0], 2),
+        gives(1, 1, 16_777_217, &[0], 2),
+        gives(1, 1, 2_147_483_649, &[0], 2),
+        gives(1, 1, 4_294_967_295, &[0], 2),
+        // 3: one cell too few, one too many, 256 too many
         gives(2, 3, 1, &[0; 5], 3),
         gives(2, 3, 1, &[0; 7], 3),
+        gives(2, 3, 1, &[0; 262], 3),
         // 4: a cell of 1000·D and of one more
         gives(1, 1, 65_535, &[65_535_000], 0),
         gives(1, 1, 65_535, &[65_535_001], 4),
         gives(1, 2, 7, &[7000, 7001], 4),
+        gives(1, 2, 7, &[7001, 7000], 4),
+        gives(1, 3, 7, &[0, 7001, 0], 4),
+        // cells of which only the second, the third or the fourth byte is not 0
+        gives(1, 1, 1, &[1024], 4),
+        gives(1, 1, 1, &[65_536], 4),
+        gives(1, 1, 1, &[16_777_216], 4),
         // a cell below zero, handed over as its bits: -1, -1000·D and the least of 32 bits
         gives(1, 1, 65_535, &[-1_i32 as u32], 4),
         gives(1, 1, 65_535, &[-65_535_000_i32 as u32], 4),
@@ -87,5 +109,12 @@ pub const ROUNDED: &[Rounded] = &[
         low: 2,
         high: 3,
         counts: [false, false, true, true, false],
+    },
+    // above 2^32: 19 more
+    Rounded {
+        entry: 4_294_967_315,
+        low: 429_496_731,
+        high: 429_496_732,
+        counts: [false; 5],
     },
 ];

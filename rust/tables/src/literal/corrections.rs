@@ -111,6 +111,11 @@ pub fn calls() -> Vec<RoundSigned> {
         rounds(table(2, 2, 2, &[-1, 0, 1, 1]), FOUR, &[-1, 0, 1, 0]),
         // what the buffer has beyond the array stays
         rounds(table(1, 2, 4, &[-4, -6]), &[8, 8, 9, -7], &[-1, -2, 9, -7]),
+        rounds(
+            table(1, 2, 4, &[-4, -6]),
+            &[8; 256],
+            &[&[-1, -2][..], &[8; 254]].concat(),
+        ),
         // counts below -255
         rounds(
             wide_table().map(|cell| -signed(cell)),
@@ -145,17 +150,30 @@ pub fn calls() -> Vec<RoundSigned> {
         refuses(table(1, 1, 65_535, &[i32::MAX]), ONE, 4),
         refuses(table(1, 2, 7, &[-7000, -7001]), TWO, 4),
         refuses(table(1, 2, 7, &[7001, 7000]), TWO, 4),
+        // cells of which only the third or the fourth byte is not that of a cell within the
+        // bounds
+        refuses(table(1, 1, 1, &[65_536]), ONE, 4),
+        refuses(table(1, 1, 1, &[-65_536]), ONE, 4),
+        refuses(table(1, 1, 1, &[16_777_216]), ONE, 4),
+        refuses(table(1, 1, 1, &[-16_777_216]), ONE, 4),
         // 1: rows, columns
         refuses(table(0, 1, 1, &[]), ONE, 1),
         refuses(table(13, 1, 1, &[-1; 13]), &[8; 13], 1),
         refuses(table(1, 0, 1, &[]), ONE, 1),
         refuses(table(1, 13, 1, &[-1; 13]), &[8; 13], 1),
+        refuses(table(257, 1, 1, &[0]), ONE, 1),
+        refuses(table(65_537, 1, 1, &[0]), ONE, 1),
+        refuses(table(1, 257, 1, &[0]), ONE, 1),
+        refuses(table(1, 65_537, 1, &[0]), ONE, 1),
         // 2: the denominator
         refuses(table(1, 1, 0, &[0]), ONE, 2),
         refuses(table(1, 1, 65_536, &[-1]), ONE, 2),
-        // 3: one cell too few, one too many
+        refuses(table(1, 1, 65_537, &[-1]), ONE, 2),
+        refuses(table(1, 1, 16_777_217, &[-1]), ONE, 2),
+        // 3: one cell too few, one too many, 256 too many
         refuses(table(2, 3, 1, &[-1; 5]), SIX, 3),
         refuses(table(2, 3, 1, &[-1; 7]), SIX, 3),
+        refuses(table(2, 3, 1, &[-1; 262]), SIX, 3),
         // two at once: 1 and 2, 1 and 3, 1 and 4, 2 and 3, 2 and 4, 3 and 4
         refuses(table(13, 1, 0, &[0; 13]), &[8; 13], 1),
         refuses(table(1, 13, 1, &[0]), &[8; 13], 1),

@@ -1,8 +1,8 @@
 //! What a stored plan has: calls beyond 01 that tell its sizes, its cells and its arrays,
 //! with 01's refusals 5, 6 and 7, and with 14 of 02, F-6, before 7.
 
-use super::stored::{changed, longer, WIDE};
-use super::{Call, FIVE, SIX};
+use super::stored::{changed, longer, LARGEST, WIDE};
+use super::{Call, FIVE, ONE, SIX};
 
 /// A plan; the call lends a buffer for numbers.
 pub type Telling = Call<Vec<u8>, u32>;
@@ -26,6 +26,8 @@ pub fn sizes() -> Vec<Telling> {
         tells(WIDE, &[8; 4], &[2, 3, 7, 1000]),
         // what the buffer has beyond the sizes stays
         tells(WIDE, &[8, 8, 8, 8, 9], &[2, 3, 7, 1000, 9]),
+        tells(WIDE, &[8; 256], &[&[2, 3, 7, 1000][..], &[8; 252]].concat()),
+        tells(LARGEST, &[8; 4], &[1, 1, 1, 65_535]),
         // 7, 5 and 6 alone
         refuses(WIDE, &[8; 3], 7),
         refuses(&longer(WIDE), &[8; 4], 5),
@@ -43,6 +45,8 @@ pub fn cells() -> Vec<Telling> {
         tells(WIDE, &[8; 6], &cells),
         // what the buffer has beyond the cells stays
         tells(WIDE, &[8, 8, 8, 8, 8, 8, 9], &[&cells[..], &[9]].concat()),
+        tells(WIDE, &[8; 256], &[&cells[..], &[8; 250]].concat()),
+        tells(LARGEST, &[8], &[65_535_000]),
         // 7, 5 and 6 alone
         refuses(WIDE, &[8; 5], 7),
         refuses(&longer(WIDE), &[8; 6], 5),
@@ -109,15 +113,26 @@ pub fn arrays() -> Vec<Array> {
     let second = buffers(&[494], &[300, 0, 66, 2, 0, 1]);
     let longer_buffers = buffers(&[8, 9], &[8, 8, 8, 8, 8, 8, 9]);
     let last = buffers(&[64, 9], &[301, 1, 65, 1, 0, 1, 9]);
+    let second_of_many = buffers(
+        &[&[494][..], &[8; 255]].concat(),
+        &[&[300, 0, 66, 2, 0, 1][..], &[8; 250]].concat(),
+    );
     let none = buffers(&[], &[]);
     vec![
         tells_array(WIDE, 1, enough(), first),
         tells_array(WIDE, 2, enough(), second),
         // the last one, with longer buffers, whose rest stays
         tells_array(WIDE, 7, longer_buffers, last),
-        // no array 0, none above the last
+        tells_array(WIDE, 2, buffers(&[8; 256], &[8; 256]), second_of_many),
+        tells_array(LARGEST, 1, buffers(&[8], ONE), buffers(&[65_535], &[1000])),
+        // no array 0, none above the last, and none of which only the low part is a number
+        // of an array
         refuses_array(WIDE, 0, enough(), 14),
         refuses_array(WIDE, 8, enough(), 14),
+        refuses_array(WIDE, 257, enough(), 14),
+        refuses_array(WIDE, 65_537, enough(), 14),
+        refuses_array(WIDE, 16_777_217, enough(), 14),
+        refuses_array(WIDE, 2_147_483_649, enough(), 14),
         refuses_array(WIDE, 4_294_967_295, enough(), 14),
         // no room for the weight, or for the counts
         refuses_array(WIDE, 1, buffers(&[], SIX), 7),

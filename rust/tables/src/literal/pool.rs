@@ -115,24 +115,55 @@ pub fn calls() -> Vec<Pool> {
             (1, &[0]),
             (65_535, &[65_535_000]),
         ),
+        // 12: twice the largest; of two pooled cells the second alone, the first alone
+        refuses(1, 1, (65_535, &[65_535_000]), (1, &[1000]), 12),
+        refuses(1, 2, (1, &[0, 600]), (1, &[0, 600]), 12),
+        refuses(1, 2, (1, &[600, 0]), (1, &[600, 0]), 12),
+        // buffers of 256 numbers
+        Pool {
+            given: given(1, 2, (10, &[3, 4]), (4, &[1, 2])),
+            lent: buffers(&[8; 256], &[8; 256]),
+            number: 0,
+            left: buffers(
+                &[&[20][..], &[8; 255]].concat(),
+                &[&[11, 18][..], &[8; 254]].concat(),
+            ),
+        },
         // 7: either buffer
         refuses_with(1, 2, (10, &[3, 4]), (4, &[1, 2]), buffers(&[], &[8, 8]), 7),
         refuses_with(1, 2, (10, &[3, 4]), (4, &[1, 2]), buffers(&[8], &[8]), 7),
         // 1: rows, columns
         refuses(13, 1, (1, &[0; 13]), (1, &[0; 13]), 1),
         refuses(1, 0, (1, &[]), (1, &[]), 1),
+        // rows and columns of which only the low part is within the bounds
+        refuses_with(257, 1, (1, &[0]), (1, &[0]), eights(1, 1), 1),
+        refuses_with(65_537, 1, (1, &[0]), (1, &[0]), eights(1, 1), 1),
+        refuses_with(1, 257, (1, &[0]), (1, &[0]), eights(1, 1), 1),
+        refuses_with(1, 65_537, (1, &[0]), (1, &[0]), eights(1, 1), 1),
         // 2: the denominator of either part
         refuses(1, 1, (0, &[0]), (1, &[0]), 2),
         refuses(1, 1, (1, &[0]), (0, &[0]), 2),
         refuses(1, 1, (65_536, &[0]), (1, &[0]), 2),
         refuses(1, 1, (1, &[0]), (65_536, &[0]), 2),
+        refuses(1, 1, (65_537, &[0]), (1, &[0]), 2),
+        refuses(1, 1, (1, &[0]), (65_537, &[0]), 2),
+        refuses(1, 1, (131_071, &[0]), (1, &[0]), 2),
+        refuses(1, 1, (1, &[0]), (131_071, &[0]), 2),
         // 3: one cell too few, one too many
         refuses(1, 2, (1, &[0]), (1, &[0, 0]), 3),
         refuses(1, 2, (1, &[0, 0]), (1, &[0, 0, 0]), 3),
+        refuses(1, 2, (1, &[0; 258]), (1, &[0, 0]), 3),
+        refuses(1, 2, (1, &[0, 0]), (1, &[0; 258]), 3),
         // 4: a cell of 1000·D, and of one more in either part
         gives(1, 1, (7, &[7000]), (1, &[0]), (7, &[7000])),
         refuses(1, 1, (7, &[7001]), (1, &[0]), 4),
         refuses(1, 1, (1, &[0]), (7, &[7001]), 4),
+        refuses(1, 1, (1, &[65_536]), (1, &[0]), 4),
+        refuses(1, 1, (1, &[0]), (1, &[65_536]), 4),
+        refuses(1, 1, (1, &[16_777_216]), (1, &[0]), 4),
+        refuses(1, 1, (1, &[0]), (1, &[16_777_216]), 4),
+        refuses(1, 2, (1, &[0, 1001]), (1, &[0, 0]), 4),
+        refuses(1, 2, (1, &[0, 0]), (1, &[0, 1001]), 4),
         // two at once: 1 and 2, 3, 4, 11, 12, 7
         refuses(13, 1, (1, &[0; 13]), (0, &[0; 13]), 1),
         refuses(1, 13, (1, &[0]), (1, &[0]), 1),

@@ -61,10 +61,23 @@ pub fn calls() -> Vec<Reason> {
         // a longer buffer, whose rest stays, and one of three numbers: 7
         Call::returns(small(1), &[8, 8, 8, 8, 9], 0, &[3, 0, 1, 1, 9]),
         Call::refuses(small(1), &[8; 3], 7),
-        // 14: array 0, one above the last, and the largest number; and with 7
+        // a buffer of 256 numbers
+        Call::returns(
+            asked(1, 1, 5, &[10], 1),
+            &[8; 256],
+            0,
+            &[&[1, 1, 1, 0][..], &[8; 252]].concat(),
+        ),
+        // 14: array 0, one above the last, and the largest number
         Call::refuses(small(0), ROOM, 14),
         Call::refuses(small(5), ROOM, 14),
         Call::refuses(small(4_294_967_295), ROOM, 14),
+        // numbers of which only the low part is a number of an array
+        Call::refuses(small(257), ROOM, 14),
+        Call::refuses(small(65_537), ROOM, 14),
+        Call::refuses(small(16_777_217), ROOM, 14),
+        Call::refuses(small(2_147_483_649), ROOM, 14),
+        // with 7
         Call::refuses(small(5), &[8; 3], 14),
         // 1, 2, 3 and 4, each with 14 and 7
         Call::refuses(asked(13, 1, 1, &[0; 13], 0), &[], 1),
@@ -73,5 +86,13 @@ pub fn calls() -> Vec<Reason> {
         Call::refuses(asked(1, 1, 1, &[1001], 0), &[], 4),
         // and with 7 alone
         Call::refuses(asked(1, 1, 1, &[1001], 1), &[], 4),
+        // rows, columns, denominators and cells of which only the low part is within the
+        // bounds
+        Call::refuses(asked(257, 1, 1, &[0], 1), ROOM, 1),
+        Call::refuses(asked(65_537, 1, 1, &[0], 1), ROOM, 1),
+        Call::refuses(asked(1, 257, 1, &[0], 1), ROOM, 1),
+        Call::refuses(asked(1, 65_537, 1, &[0], 1), ROOM, 1),
+        Call::refuses(asked(1, 1, 65_537, &[0], 1), ROOM, 2),
+        Call::refuses(asked(1, 1, 1, &[65_536], 1), ROOM, 4),
     ]
 }

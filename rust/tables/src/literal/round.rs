@@ -1,7 +1,7 @@
 //! Controlled roundings, and the call "rounding" (01, "The rounding" and "Turned back").
 
 use super::stored::wide_table;
-use super::{table, Call, FIVE, SIX};
+use super::{table, Call, FIVE, ONE, SIX};
 use crate::GivenTable;
 
 /// Two rows and three columns over 10.
@@ -30,6 +30,9 @@ pub const CANDIDATES: &[Candidate] = &[
     candidate(&[0, 0, 1, 2, 0, 1], false),
     candidate(&[1, 0, 0, 2, 1, 0], false),
     candidate(&[1, 0, 1, 2, 1, 1], false),
+    // a count of which only the low part is right
+    candidate(&[256, 0, 1, 2, 1, 0], false),
+    candidate(&[0, 0, 1, 2, 1, 65_536], false),
     // one count too few, one too many
     candidate(&[0, 0, 1, 2, 1], false),
     candidate(&[0, 0, 1, 2, 1, 0, 0], false),
@@ -46,8 +49,23 @@ pub fn calls() -> Vec<Round> {
         rounds(table(2, 3, 10, &CELLS), SIX, &[0, 0, 1, 2, 1, 0]),
         // what the buffer has beyond the array stays
         rounds(table(1, 2, 4, &[4, 6]), &[8, 8, 9, 7], &[1, 1, 9, 7]),
+        rounds(
+            table(1, 2, 4, &[4, 6]),
+            &[8; 256],
+            &[&[1, 1][..], &[8; 254]].concat(),
+        ),
         // counts above 255
         rounds(wide_table(), SIX, &[300, 0, 66, 1, 1, 1]),
+        // the largest denominator, cell and count
+        rounds(table(1, 1, 65_535, &[65_535_000]), ONE, &[1000]),
+        // rows, columns, denominators and cells of which only the low part is within the
+        // bounds
+        Call::refuses(table(257, 1, 1, &[0]), ONE, 1),
+        Call::refuses(table(65_537, 1, 1, &[0]), ONE, 1),
+        Call::refuses(table(1, 257, 1, &[0]), ONE, 1),
+        Call::refuses(table(1, 65_537, 1, &[0]), ONE, 1),
+        Call::refuses(table(1, 1, 65_537, &[0]), ONE, 2),
+        Call::refuses(table(1, 1, 1, &[65_536]), ONE, 4),
         // 7 alone, and with each of 1, 2, 3 and 4
         Call::refuses(table(2, 3, 10, &CELLS), FIVE, 7),
         Call::refuses(table(2, 3, 10, &CELLS), &[], 7),

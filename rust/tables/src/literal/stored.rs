@@ -89,6 +89,21 @@ pub const RECURRING: &[u8] = &[
     45, 1, 1, 0, 65, 0, 1, 0, 0, 0, 1, 0,
 ];
 
+/// One cell, the shortest plan: D, the weight, the cell and the count are the largest that
+/// there are, and the cell takes four bytes.
+#[rustfmt::skip]
+pub const LARGEST: &[u8] = &[
+    // form, r, c, K, zero
+    1, 0, 1, 1, 1, 0, 0, 0,
+    // D and the offset of the table
+    255, 255, 0, 0, 24, 0, 0, 0,
+    // weight and offset of the array
+    255, 255, 0, 0, 28, 0, 0, 0,
+    // the table and the array
+    24, 252, 231, 3,
+    232, 3,
+];
+
 /// The table of `WIDE` and `RECURRING`.
 pub fn wide_table() -> GivenTable {
     table(2, 3, 1000, &[300_400, 70, 65_936, 1500, 260, 999])
@@ -156,6 +171,10 @@ pub fn stored() -> Vec<Stored> {
                     (64, [301, 1, 65, 1, 0, 1]),
                 ],
             ),
+        },
+        Stored {
+            bytes: LARGEST,
+            plan: Example::new(table(1, 1, 65_535, &[65_535_000]), &[(65_535, [1000])]),
         },
     ]
 }

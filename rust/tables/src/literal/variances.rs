@@ -144,6 +144,7 @@ fn prints(parts: &[&[u8]], prints: &'static str) -> Output {
 
 pub fn outputs() -> Vec<Output> {
     let single = one_cell(1, 1, 1, 1);
+    let high = changed(&one_cell(1, 0, 1, 0), &[(10, 1), (18, 1)]);
     vec![
         // nothing; one plan; several
         prints(&[], ""),
@@ -159,6 +160,12 @@ pub fn outputs() -> Vec<Output> {
         ),
         prints(&[NEVER_BOTH, ONE_ROW], "1 45 -12 -12\n2 4 0 0\n"),
         prints(&[LARGEST_COUNTS], "1 2147418112 -1073709056 -1073709056\n"),
+        // ten plans
+        prints(
+            &[&single[..]; 10],
+            "1 0 0 0\n2 0 0 0\n3 0 0 0\n4 0 0 0\n5 0 0 0\n\
+            6 0 0 0\n7 0 0 0\n8 0 0 0\n9 0 0 0\n10 0 0 0\n",
+        ),
         // 1 byte left over, and 7
         prints(&[SQUARE, &SQUARE[..1]], "1 4 -1 1\nrefused 5\n"),
         prints(&[SQUARE, &SQUARE[..7]], "1 4 -1 1\nrefused 5\n"),
@@ -166,11 +173,12 @@ pub fn outputs() -> Vec<Output> {
         // the head alone, and a plan without its last byte
         prints(&[SQUARE, &SQUARE[..8]], "1 4 -1 1\nrefused 5\n"),
         prints(&[SQUARE, &SQUARE[..63]], "1 4 -1 1\nrefused 5\n"),
-        // form, zero field
+        // form, zero field, the high byte of the number of arrays
         prints(&[&changed(SQUARE, &[(0, 2)])], "refused 5\n"),
         prints(&[&changed(SQUARE, &[(1, 1)])], "refused 5\n"),
         prints(&[&changed(SQUARE, &[(6, 1)])], "refused 5\n"),
         prints(&[&changed(SQUARE, &[(7, 1)])], "refused 5\n"),
+        prints(&[&changed(SQUARE, &[(5, 1)])], "refused 5\n"),
         // 13 rows, 13 columns, none of either, no arrays, 171 arrays
         prints(&[&zeros(13, 1, 76, 78)], "refused 5\n"),
         prints(&[&zeros(1, 13, 76, 78)], "refused 5\n"),
@@ -178,10 +186,13 @@ pub fn outputs() -> Vec<Output> {
         prints(&[&zeros(1, 0, 24, 0)], "refused 5\n"),
         prints(&[NO_ARRAYS], "refused 5\n"),
         prints(&[&many_arrays()], "refused 5\n"),
-        // D 0, and the offsets of the table and of an array
+        // D 0, D of 65,537, and the offsets of the table and of an array
         prints(&[&one_cell(0, 0, 1, 0)], "refused 5\n"),
+        prints(&[&high], "refused 5\n"),
         prints(&[&changed(SQUARE, &[(12, 33)])], "refused 5\n"),
         prints(&[&changed(SQUARE, &[(20, 50)])], "refused 5\n"),
+        prints(&[&changed(SQUARE, &[(14, 1)])], "refused 5\n"),
+        prints(&[&changed(SQUARE, &[(23, 1)])], "refused 5\n"),
         // 6
         prints(&[&heavy()], "refused 6\n"),
         prints(&[LISTING, &heavy()], "1 94 -24 20\nrefused 6\n"),
