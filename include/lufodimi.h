@@ -137,9 +137,10 @@ uint32_t lufodimi_reason(uint32_t rows, uint32_t columns, uint32_t denominator,
                          const uint32_t *cells, size_t cells_length, uint32_t array,
                          uint32_t *reply, size_t reply_length);
 
-/* Opens a stored plan, whoever made it; its length is just the plan's. It opens if each array's cells, row totals, column totals and grand
- * total are the table's over the denominator, rounded down or up, the weights add up to the denominator, and the weighted arrays to the
- * table. It writes nothing. Refusals 5, 6. */
+/* Opens a stored plan, whoever made it; its length is just the plan's. It opens if form, zero field, sizes, offsets and length are right,
+ * else 5; and if each cell is at most 1000 times the denominator, each weight is at least 1, the weights add up to the denominator, each
+ * array's cells, row totals, column totals and grand total are the table's over the denominator, rounded down or up, and the weighted arrays
+ * add up to the table, else 6. It writes nothing. Refusals 5, 6. */
 uint32_t lufodimi_open(const uint8_t *plan, size_t plan_length);
 
 /* Writes the sizes of a plan, LUFODIMI_SIZES numbers: rows, columns, arrays, denominator. Refusals 5, 6, 7. */

@@ -185,8 +185,9 @@ class Variances(NamedTuple):
 
 
 class Plan:
-    """An opened plan, whoever made it: its bytes `stored`, and its `rows`, `columns`, `array_count`, `denominator` and `cells`. Refusals 5 and 6: it opens if
-    each array keeps every cell, row, column and the whole at its expectation rounded down or up, and weights and weighted arrays add up."""
+    """An opened plan, whoever made it: its bytes `stored`, and its `rows`, `columns`, `array_count`, `denominator` and `cells`. It opens if it is laid out as a
+    plan (else refusal 5), no cell is above 1000 times the denominator, each weight is at least 1, the weights add up to the denominator, each array keeps every
+    cell, row, column and the whole at its expectation rounded down or up, and the weighted arrays add up to the table (else refusal 6)."""
 
     def __init__(self, stored: bytes):
         self.stored = memoryview(stored).tobytes()

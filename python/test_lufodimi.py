@@ -212,6 +212,9 @@ class Tests(unittest.TestCase):
         weight = bytearray(stored)
         weight[16] -= 1  # the first array's weight: the weights then add up to one less than the denominator
         self.refused(6, lufodimi.Plan, weight)
+        # one cell 1 over 1, with the count 1 of weight 1 and again of weight 0: all is rounded and adds up
+        twice = bytes.fromhex("0100010102000000 0100000020000000 0100000024000000 0000000026000000 01000000 0100 0100")
+        self.refused(6, lufodimi.Plan, twice)
 
     def test_foreign_plans(self):
         begin = "0100020202000000 0200000020000000 0100000030000000 0100000038000000"

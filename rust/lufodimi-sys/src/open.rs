@@ -1,8 +1,10 @@
 extern "C" {
-    /// Opens a stored plan, whoever made it. It opens if each array's cells, row totals,
-    /// column totals and grand total are the table's over the denominator, rounded down or
-    /// up, the weights add up to the denominator, and the weighted arrays to the table. It
-    /// writes nothing. Refusals 5, 6.
+    /// Opens a stored plan, whoever made it. It opens if form, zero field, sizes, offsets
+    /// and length are right, else 5; and if each cell is at most 1000 times the
+    /// denominator, each weight is at least 1, the weights add up to the denominator, each
+    /// array's cells, row totals, column totals and grand total are the table's over the
+    /// denominator, rounded down or up, and the weighted arrays add up to the table, else
+    /// 6. It writes nothing. Refusals 5, 6.
     ///
     /// # Safety
     ///

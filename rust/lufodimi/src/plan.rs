@@ -80,9 +80,9 @@ impl Plan {
     ///
     /// [`Refusal::Layout`] if the bytes are not laid out as a stored plan, and
     /// [`Refusal::Content`] if another condition of opening is not met: a cell is above
-    /// 1000 times the denominator, a cell, row total, column total or grand total of an
-    /// array is not the table's rounded down or up, or weights or weighted arrays do not
-    /// add up.
+    /// 1000 times the denominator, a weight is 0, the weights do not add up to the
+    /// denominator, a cell, row total, column total or grand total of an array is not the
+    /// table's rounded down or up, or the weighted arrays do not add up to the table.
     pub fn open(bytes: impl Into<Vec<u8>>) -> Result<Plan, Refusal> {
         let bytes = bytes.into();
         let mut sizes = [0; 4];

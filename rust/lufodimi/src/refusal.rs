@@ -29,9 +29,10 @@ pub enum Refusal {
     LargeCell = 4,
     /// A stored plan whose form, zero field, sizes, offsets or length are wrong.
     Layout = 5,
-    /// A stored plan with a cell above 1000 times the denominator, with an array of which
-    /// a cell, a row total, a column total or the grand total is not the table's rounded
-    /// down or up, or with weights or weighted arrays that do not add up.
+    /// A stored plan with a cell above 1000 times the denominator, with a weight of 0, with
+    /// weights that do not add up to the denominator, with an array of which a cell, a row
+    /// total, a column total or the grand total is not the table's rounded down or up, or
+    /// with weighted arrays that do not add up to the table.
     Content = 6,
     /// A lent buffer shorter than its result or record. This crate lends buffers that
     /// are long enough, and so never returns it.

@@ -97,6 +97,24 @@ fn bytes_are_refused_by_5_and_6() {
     assert_eq!(refusal(&heavy), Some(Refusal::Layout));
 }
 
+/// One cell 1 over 1, with the count 1 of weight 1 and again of weight 0: all is rounded and
+/// adds up.
+#[rustfmt::skip]
+const WITHOUT_WEIGHT: [u8; 40] = [
+    1, 0, 1, 1, 2, 0, 0, 0,
+    1, 0, 0, 0, 32, 0, 0, 0,
+    1, 0, 0, 0, 36, 0, 0, 0,
+    0, 0, 0, 0, 38, 0, 0, 0,
+    1, 0, 0, 0,
+    1, 0,
+    1, 0,
+];
+
+#[test]
+fn a_weight_of_0_is_refused_by_6() {
+    assert_eq!(Plan::open(WITHOUT_WEIGHT), Err(Refusal::Content));
+}
+
 /// Cells 1 1, 1 0 over 2, with the arrays 1 0, 0 0 and 0 1, 1 0, weight 1 each.
 #[rustfmt::skip]
 const VARYING: [u8; 64] = [
