@@ -4,12 +4,12 @@
 //! 10. The list of recalled kinds says how many more, over 4. The example shows what is
 //! expected of the cells that the list changes, and what plan the pooled table has.
 
-use lufodimi::{Plan, Refusal, Table};
+use lufodimi::{Plan, PoolError, Refusal, Table};
 
 const ZONES: [&str; 3] = ["front", "middle", "cold"];
 const KINDS: [&str; 4] = ["tablets", "ampoules", "insulin", "infusions"];
 
-fn main() -> Result<(), Refusal> {
+fn main() -> Result<(), PoolError> {
     print!("{}", described(&standing()?, &week()?)?);
     Ok(())
 }
@@ -30,7 +30,7 @@ fn table(denominator: u32, zones: [[u32; 4]; 3]) -> Result<Table, Refusal> {
 }
 
 /// What the list changes, and how the pooled table is planned.
-fn described(standing: &Table, list: &Table) -> Result<String, Refusal> {
+fn described(standing: &Table, list: &Table) -> Result<String, PoolError> {
     let pooled = standing.pool(list)?;
     let mut text = String::new();
     for cell in changed(list) {
@@ -71,7 +71,8 @@ mod tests {
 
     #[test]
     fn the_recall_is_described() {
-        let text = standing().and_then(|standing| described(&standing, &week()?));
+        let (standing, list) = (standing().expect("accepted"), week().expect("accepted"));
+        let text = described(&standing, &list);
         let expected = "middle, infusions: 1.90 standing, 0.75 on the list, 2.65 pooled\n\
             cold, ampoules: 1.40 standing, 0.50 on the list, 1.90 pooled\n\
             the pooled plan: 6 arrays, 20 draws\n";
@@ -91,6 +92,7 @@ mod tests {
     fn a_list_over_too_large_a_denominator_is_refused() {
         let standing = standing().expect("accepted");
         let list = table(65_521, [[1; 4]; 3]).expect("accepted");
-        assert_eq!(described(&standing, &list), Err(Refusal::Multiple));
+        let refused = Err(PoolError::Refused(Refusal::Multiple));
+        assert_eq!(described(&standing, &list), refused);
     }
 }

@@ -25,5 +25,5 @@ pub use plan::Plan;
 pub use reason::{Entry, Reason};
 pub use record::{Record, RecordError};
 pub use refusal::Refusal;
-pub use table::Table;
+pub use table::{PoolError, Table};
 pub use variances::Variances;

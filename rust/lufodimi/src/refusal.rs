@@ -19,7 +19,7 @@ use core::fmt::{self, Debug, Display, Formatter};
 #[derive(Clone, Copy, PartialEq, Eq, Hash)]
 #[non_exhaustive]
 pub enum Refusal {
-    /// Rows or columns not from 1 to 12, or not the same in two tables to be pooled.
+    /// Rows or columns not from 1 to 12.
     Size = 1,
     /// The denominator not from 1 to 65,535.
     Denominator = 2,
@@ -98,9 +98,7 @@ pub(crate) fn accepted(answer: u32) -> Result<(), Refusal> {
 impl Display for Refusal {
     fn fmt(&self, formatter: &mut Formatter) -> fmt::Result {
         formatter.write_str(match self {
-            Refusal::Size => {
-                "rows or columns are not from 1 to 12, or differ between pooled tables"
-            }
+            Refusal::Size => "rows or columns are not from 1 to 12",
             Refusal::Denominator => "the denominator is not from 1 to 65,535",
             Refusal::CellCount => "the cells are not as many as rows times columns",
             Refusal::LargeCell => {

@@ -1,3 +1,7 @@
+mod error;
+
+pub use error::PoolError;
+
 use crate::refusal::accepted;
 use crate::{rounding, Reason, Refusal};
 use alloc::vec;
@@ -148,26 +152,26 @@ impl Table {
     /// counts is exactly the sum of theirs.
     ///
     /// ```
-    /// use lufodimi::{Refusal, Table};
+    /// use lufodimi::{PoolError, Table};
     ///
     /// let standing = Table::new(1, 2, 10, [3, 4])?;
     /// let list = Table::new(1, 2, 4, [1, 2])?;
-    /// assert_eq!(standing.pool(&list), Table::new(1, 2, 20, [11, 18]));
+    /// assert_eq!(standing.pool(&list)?, Table::new(1, 2, 20, [11, 18])?);
     ///
     /// let other_size = Table::new(2, 1, 4, [1, 2])?;
-    /// assert_eq!(standing.pool(&other_size), Err(Refusal::Size));
-    /// # Ok::<(), Refusal>(())
+    /// assert_eq!(standing.pool(&other_size), Err(PoolError::Sizes));
+    /// # Ok::<(), PoolError>(())
     /// ```
     ///
     /// # Errors
     ///
-    /// [`Refusal::Size`] if rows or columns are not the same in both, which is found out
-    /// before the library is asked, since a call has one size for both;
-    /// [`Refusal::Multiple`] if the least common multiple is above 65,535, and
+    /// [`PoolError::Sizes`] if rows or columns are not the same in both, which is found
+    /// out before the library is asked; [`PoolError::Refused`] with
+    /// [`Refusal::Multiple`] if the least common multiple is above 65,535, and with
     /// [`Refusal::PooledCell`] if a pooled cell is above 1000 times the multiple.
-    pub fn pool(&self, other: &Table) -> Result<Table, Refusal> {
+    pub fn pool(&self, other: &Table) -> Result<Table, PoolError> {
         if (self.rows, self.columns) != (other.rows, other.columns) {
-            return Err(Refusal::Size);
+            return Err(PoolError::Sizes);
         }
         let (mut denominator, mut cells) = ([0], vec![0; self.cells.len()]);
         accepted(lufodimi_sys::pool(

@@ -1,6 +1,7 @@
 //! Tables: what is accepted, every refusal, the first controlled rounding, and pooling.
 
-use lufodimi::{Plan, Refusal, Table};
+use lufodimi::{Plan, PoolError, Refusal, Table};
+use std::error::Error;
 
 fn refusal(rows: u32, columns: u32, denominator: u32, cells: Vec<u32>) -> Option<u32> {
     let table = Table::new(rows, columns, denominator, cells);
@@ -91,35 +92,53 @@ fn tables_of_different_sizes_are_not_pooled() {
     for (rows, columns) in [(3, 2), (2, 2), (1, 3), (6, 1), (12, 12)] {
         let cells = vec![1; (rows * columns) as usize];
         let other = table(rows, columns, 10, &cells);
-        assert_eq!(wide.pool(&other), Err(Refusal::Size));
-        assert_eq!(other.pool(&wide), Err(Refusal::Size));
+        assert_eq!(wide.pool(&other), Err(PoolError::Sizes));
+        assert_eq!(other.pool(&wide), Err(PoolError::Sizes));
     }
-    // the size comes before the multiple
+    // the sizes come before the multiple
     let over_another = table(3, 2, 65_521, &[1; 6]);
-    assert_eq!(wide.pool(&over_another), Err(Refusal::Size));
+    assert_eq!(wide.pool(&over_another), Err(PoolError::Sizes));
+}
+
+#[test]
+fn errors_of_pooling_are_sentences() {
+    let sizes = "the rows or the columns of the two tables differ";
+    let multiple = "the least common multiple of the two denominators is above 65,535";
+    let numbered = "the least common multiple of the two denominators is above 65,535 (refusal 11)";
+    for (error, sentence, debug) in [
+        (PoolError::Sizes, sizes, sizes),
+        (Refusal::Multiple.into(), multiple, numbered),
+    ] {
+        assert_eq!(error.to_string(), sentence);
+        let shown: Box<dyn Error> = error.into();
+        assert_eq!(format!("{shown:?}"), debug);
+    }
 }
 
 #[test]
 fn the_multiple_is_at_most_the_largest_denominator() {
     let pooled = |one, other| table(1, 1, one, &[1]).pool(&table(1, 1, other, &[1]));
     assert_eq!(pooled(255, 257), Ok(table(1, 1, 65_535, &[512])));
-    assert_eq!(pooled(256, 257), Err(Refusal::Multiple));
-    assert_eq!(pooled(2, 32_769), Err(Refusal::Multiple));
-    assert_eq!(pooled(65_534, 65_535), Err(Refusal::Multiple));
+    let refused = Err(PoolError::Refused(Refusal::Multiple));
+    assert_eq!(pooled(256, 257), refused);
+    assert_eq!(pooled(2, 32_769), refused);
+    assert_eq!(pooled(65_534, 65_535), refused);
 }
 
 #[test]
 fn a_pooled_cell_is_at_most_the_largest_count() {
     let pooled = |one, other| table(1, 2, 10, &[0, one]).pool(&table(1, 2, 4, &[0, other]));
     assert_eq!(pooled(9000, 400), Ok(table(1, 2, 20, &[0, 20_000])));
-    assert_eq!(pooled(8998, 401), Err(Refusal::PooledCell));
-    assert_eq!(pooled(10_000, 4000), Err(Refusal::PooledCell));
+    let refused = Err(PoolError::Refused(Refusal::PooledCell));
+    assert_eq!(pooled(8998, 401), refused);
+    assert_eq!(pooled(10_000, 4000), refused);
 }
 
 #[test]
 fn the_multiple_is_refused_before_a_pooled_cell() {
     let (one, other) = (table(1, 1, 2, &[2000]), table(1, 1, 32_769, &[32_769_000]));
-    assert_eq!(one.pool(&other), Err(Refusal::Multiple));
+    let refused = Err(PoolError::Refused(Refusal::Multiple));
+    assert_eq!(one.pool(&other), refused);
 }
 
 #[test]
