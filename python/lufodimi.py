@@ -229,7 +229,7 @@ class Plan:
 class Campaign:
     """Draws in rounds that use every number of a plan once; a new round begins by itself, until 1,000 are completed. It starts anew, or goes on from the
     `record` of an earlier one: refusal 9 if that does not fit the plan, and ValueError if the bytes are no stored record, as where a file was cut short. A
-    record of form 1, from before there were rounds, has completed none, or one if all its numbers are taken."""
+    record of form 1, from before there were rounds, has completed none, or one if all its numbers are taken; in form 2 that does not fit."""
 
     def __init__(self, plan: Plan, record: bytes | None = None):
         self.plan = plan
@@ -256,8 +256,8 @@ class Campaign:
         self._counted.taken, self._counted.rounds, self._bits[:] = taken, rounds, record[_HEAD.size : _HEAD.size + bits]
         self._tally[:] = struct.unpack_from(f"<{tally}{_SUMS[form]}", record, _HEAD.size + bits)
         all_taken = ((1 << self.plan.denominator) - 1).to_bytes(bits, "little")
-        if (rounds, taken, bytes(self._bits)) == (0, self.plan.denominator, all_taken):
-            # No record has all numbers taken any more: an old one at its end is a completed round.
+        if (form, taken, bytes(self._bits)) == (1, self.plan.denominator, all_taken):
+            # No record has all numbers taken any more: a file of form 1 that does is converted to a completed round.
             self._counted.taken, self._counted.rounds, self._bits[:] = 0, 1, bytes(bits)
 
     def draw(self, number: int) -> list[int]:

@@ -368,7 +368,8 @@ class Tests(unittest.TestCase):
         self.assertEqual(campaign(self.stored(2, 1_000, 0, 0, thousand)).rounds, 1_000)
         self.refused(9, campaign, self.stored(2, 1_001, 0, 0, [1_001 * cell for cell in CELLS]))
         self.refused(9, campaign, self.stored(2, 1_000, 1, 1, [3_000, 4_000, 5_000, 6_001]))  # a number is taken after the last round
-        self.refused(9, campaign, self.stored(2, 1, 10, 0x3FF, [6, 8, 10, 12]))  # no number is free
+        for rounds, tally in ((0, CELLS), (1, CELLS), (1, [6, 8, 10, 12])):
+            self.refused(9, campaign, self.stored(2, rounds, 10, 0x3FF, tally))  # no number is free
 
     def test_old_records(self):
         for number in (0, 7):
@@ -376,11 +377,10 @@ class Tests(unittest.TestCase):
             self.assertEqual((run.rounds, run.free), (0, [other for other in range(10) if other != number]))
             self.assertEqual((run.tally, run.record), (ARRAYS[number], self.stored(2, 0, 1, 1 << number, ARRAYS[number])))
             self.refused(10, run.draw, number)
-        for form in (1, 2):
-            run = campaign(self.stored(form, 0, 10, 0x3FF, CELLS))
-            self.assertEqual((run.rounds, run.free, run.tally), (1, list(range(10)), CELLS))
-            self.assertEqual(run.record, self.stored(2, 1, 0, 0, CELLS))
-            self.assertEqual(run.draw(0), ARRAYS[0])
+        run = campaign(self.stored(1, 0, 10, 0x3FF, CELLS))
+        self.assertEqual((run.rounds, run.free, run.tally), (1, list(range(10)), CELLS))
+        self.assertEqual(run.record, self.stored(2, 1, 0, 0, CELLS))
+        self.assertEqual(run.draw(0), ARRAYS[0])
         for taken, bits, tally in (
             (10, 0x3FF, [3, 4, 5, 7]),
             (10, 0x3FF, [6, 8, 10, 12]),

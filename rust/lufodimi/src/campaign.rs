@@ -88,9 +88,9 @@ impl<'p> Campaign<'p> {
     /// # Ok::<(), Refusal>(())
     /// ```
     ///
-    /// A record that was kept before there were rounds may have all numbers taken, which
-    /// none has any more. One with 0 rounds, all numbers taken and no spare bit set is gone
-    /// on with as what it is now: a completed round, with nothing taken in the next.
+    /// A record of form 1, from before there were rounds, may have all numbers taken, which
+    /// none has any more. If no spare bit is set, it is gone on with as what it is now: a
+    /// completed round, with nothing taken in the next.
     ///
     /// ```
     /// use lufodimi::{Campaign, Plan, Record, Table};
@@ -111,17 +111,13 @@ impl<'p> Campaign<'p> {
     /// spare bit is set, the count is not that of the numbers taken, the rounds are above
     /// [`ROUNDS`](Campaign::ROUNDS), no number is free, a number is taken after the last
     /// round, or the tally is not the rounds times the table and the arrays of the numbers
-    /// taken in this round. So is an old record with all numbers taken whose tally is not
-    /// the table.
+    /// taken in this round. A record of form 1 with all numbers taken does not fit if its
+    /// tally is not the table.
     pub fn resume(plan: &'p Plan, record: Record) -> Result<Campaign<'p>, Refusal> {
         if !record.has_lengths_of(plan) {
             return Err(Refusal::Record);
         }
-        let record = if record.is_at_old_end(plan) {
-            record.after_first_round()
-        } else {
-            record
-        };
+        let record = record.converted(plan);
         let campaign = Campaign { plan, record };
         // A draw tells first whether the record fits, and then whether the rounds are done
         // and the number is taken; number 0 is below every denominator.

@@ -30,6 +30,9 @@ pub struct Record {
     pub(crate) progress: lufodimi_record,
     pub(crate) bits: Vec<u8>,
     pub(crate) tally: Vec<u64>,
+    /// Whether it was read in form 1, and no campaign has gone on with it since: then all
+    /// numbers taken are a completed round.
+    is_old: bool,
 }
 
 /// The bytes before the bits.
@@ -43,7 +46,8 @@ impl Record {
     /// ```
     pub const MAGIC: [u8; 4] = *b"LUFR";
 
-    /// The form in which records are stored. Those of form 1 are still read.
+    /// The form in which the records of campaigns are stored. Those of form 1 are still
+    /// read.
     ///
     /// ```
     /// assert_eq!(lufodimi::Record::FORM, 2);
@@ -56,6 +60,7 @@ impl Record {
             progress: lufodimi_record::default(),
             bits: vec![0; bytes_of_bits(plan)],
             tally: vec![0; plan.cells().len()],
+            is_old: false,
         }
     }
 
@@ -64,17 +69,30 @@ impl Record {
         self.bits.len() == bytes_of_bits(plan) && self.tally.len() == plan.cells().len()
     }
 
-    /// Whether the record, which has the lengths of this plan, is at the end of a campaign
-    /// without rounds: none is completed, and every number is taken.
-    pub(crate) fn is_at_old_end(&self, plan: &Plan) -> bool {
-        let denominator = plan.denominator();
+    /// The record, which has the lengths of this plan, as campaigns have it now. One that
+    /// was read in form 1 has completed no round, or the first if it has all numbers taken.
+    pub(crate) fn converted(self, plan: &Plan) -> Record {
+        let record = if self.is_old && self.has_all_taken(plan.denominator()) {
+            self.after_first_round()
+        } else {
+            self
+        };
+        Record {
+            is_old: false,
+            ..record
+        }
+    }
+
+    /// Whether count and bits say that every number below the denominator is taken, and no
+    /// spare bit is set.
+    fn has_all_taken(&self, denominator: u32) -> bool {
         let set: u32 = self.bits.iter().map(|byte| byte.count_ones()).sum();
-        (self.rounds(), self.taken(), set) == (0, denominator, denominator)
+        (self.taken(), set) == (denominator, denominator)
             && (0..denominator).all(|number| self.is_set(number))
     }
 
     /// The record after its first round, with the same tally.
-    pub(crate) fn after_first_round(self) -> Record {
+    fn after_first_round(self) -> Record {
         Record {
             progress: lufodimi_record {
                 taken: 0,
@@ -146,7 +164,8 @@ impl Record {
     /// | then 8·t bytes | the tally, 8 bytes a number, in row order |
     ///
     /// Nothing follows. Form 1 knows no rounds: it has zero in bytes 6 and 7, and 4 bytes
-    /// for each number of the tally.
+    /// for each number of the tally. A record that was read in form 1 is stored in form 1
+    /// again, until a campaign goes on with it.
     ///
     /// ```
     /// use lufodimi::{Campaign, Plan, Table};
@@ -164,15 +183,22 @@ impl Record {
     /// # Ok::<(), lufodimi::Refusal>(())
     /// ```
     pub fn to_bytes(&self) -> Vec<u8> {
-        let mut bytes = Vec::with_capacity(HEAD + self.bits.len() + 8 * self.tally.len());
+        let (form, width) = if self.is_old {
+            (1, 4)
+        } else {
+            (Record::FORM, 8)
+        };
+        let mut bytes = Vec::with_capacity(HEAD + self.bits.len() + width * self.tally.len());
         bytes.extend(Record::MAGIC);
-        bytes.extend(Record::FORM.to_le_bytes());
+        bytes.extend(form.to_le_bytes());
         bytes.extend(self.rounds().to_le_bytes());
         for number in [self.taken(), length(&self.bits), length(&self.tally)] {
             bytes.extend(number.to_le_bytes());
         }
         bytes.extend(&self.bits);
-        bytes.extend(self.tally.iter().flat_map(|sum| sum.to_le_bytes()));
+        for sum in &self.tally {
+            bytes.extend(&sum.to_le_bytes()[..width]);
+        }
         bytes
     }
 
@@ -216,8 +242,8 @@ impl Record {
             .split_first_chunk()
             .ok_or(RecordError::Layout)?;
         let record = match u16::from_le_bytes(*form) {
-            1 => body(rest, 4).filter(|record| record.rounds() == 0),
-            Record::FORM => body(rest, 8),
+            1 => body(rest, 4, true).filter(|record| record.rounds() == 0),
+            Record::FORM => body(rest, 8, false),
             other => return Err(RecordError::Form(other)),
         };
         record.ok_or(RecordError::Layout)
@@ -225,8 +251,8 @@ impl Record {
 }
 
 /// The record that follows magic and form, if the length is right. A number of the tally
-/// takes so many bytes.
-fn body(bytes: &[u8], width: usize) -> Option<Record> {
+/// takes so many bytes; the form is 1 where the record is old.
+fn body(bytes: &[u8], width: usize, is_old: bool) -> Option<Record> {
     let (rounds, rest) = bytes.split_first_chunk()?;
     let (taken, rest) = number(rest)?;
     let (bits_length, rest) = number(rest)?;
@@ -240,6 +266,7 @@ fn body(bytes: &[u8], width: usize) -> Option<Record> {
         },
         bits: bits.to_vec(),
         tally: rest.chunks_exact(width).map(widened).collect(),
+        is_old,
     })
 }
 

@@ -195,15 +195,25 @@ fn an_old_record_with_some_numbers_taken_has_no_round() {
 #[test]
 fn an_old_record_with_all_numbers_taken_is_a_completed_round() {
     let plan = plan();
-    for form in [1, 2] {
-        let old = written(form, 0, 10, [255, 3], [3, 4, 5, 6]);
-        let mut campaign = resumed(&plan, &old).expect("it fits");
-        assert_eq!((campaign.rounds(), campaign.taken()), (1, 0));
-        assert_eq!(campaign.tally(), [3, 4, 5, 6]);
-        assert!(campaign.remaining().eq(0..10));
-        let stored = campaign.record().to_bytes();
-        assert_eq!(stored, written(2, 1, 0, [0, 0], [3, 4, 5, 6]));
-        assert_eq!(campaign.draw(0), plan.draw(0));
+    let old = written(1, 0, 10, [255, 3], [3, 4, 5, 6]);
+    // stored again before a campaign goes on with it, it is still the old file
+    let again = Record::from_bytes(&old).expect("a stored record");
+    assert_eq!(again.to_bytes(), old);
+    let mut campaign = resumed(&plan, &old).expect("it fits");
+    assert_eq!((campaign.rounds(), campaign.taken()), (1, 0));
+    assert_eq!(campaign.tally(), [3, 4, 5, 6]);
+    assert!(campaign.remaining().eq(0..10));
+    let stored = campaign.record().to_bytes();
+    assert_eq!(stored, written(2, 1, 0, [0, 0], [3, 4, 5, 6]));
+    assert_eq!(campaign.draw(0), plan.draw(0));
+}
+
+#[test]
+fn a_record_of_form_2_with_all_numbers_taken_is_refused_by_9() {
+    let plan = plan();
+    for (rounds, tally) in [(0, [3, 4, 5, 6]), (1, [3, 4, 5, 6]), (1, [6, 8, 10, 12])] {
+        let stored = written(2, rounds, 10, [255, 3], tally);
+        assert_eq!(resumed(&plan, &stored), Err(Refusal::Record));
     }
 }
 

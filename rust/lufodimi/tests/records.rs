@@ -22,9 +22,14 @@ const OLD: &[u8] = &[
     2, 0, 0, 0, 0, 0, 0, 0,
 ];
 
+/// The plan of that campaign.
+fn plan() -> Plan {
+    Plan::of(&Table::new(1, 2, 9, [18, 0]).expect("accepted"))
+}
+
 /// The record after so many rounds and draw 8.
 fn record(rounds: u16) -> Record {
-    let plan = Plan::of(&Table::new(1, 2, 9, [18, 0]).expect("accepted"));
+    let plan = plan();
     let mut campaign = Campaign::start(&plan);
     for _ in 0..rounds {
         for number in 0..9 {
@@ -65,22 +70,27 @@ fn each_number_has_its_width() {
 }
 
 #[test]
-fn an_old_record_is_read_and_stored_in_the_present_form() {
-    assert_eq!(Record::from_bytes(OLD), Ok(record(0)));
+fn an_old_record_is_read_and_stored_as_it_was() {
     let mut wide = OLD.to_vec();
     wide[26..30].copy_from_slice(&[1, 2, 3, 255]);
-    let record = Record::from_bytes(&wide).expect("a stored record");
-    assert_eq!((record.rounds(), record.taken()), (0, 1));
-    assert_eq!(record.tally(), [2, 0xFF03_0201]);
-    let present = [
-        &STORED[..4],
-        &[2, 0, 0, 0],
-        &OLD[8..26],
-        &[0; 4],
-        &wide[26..],
-        &[0; 4],
-    ];
-    assert_eq!(record.to_bytes(), present.concat());
+    for (stored, second) in [(OLD, 0), (&wide, 0xFF03_0201)] {
+        let record = Record::from_bytes(stored).expect("a stored record");
+        assert_eq!((record.rounds(), record.taken()), (0, 1));
+        assert_eq!(record.tally(), [2, second]);
+        assert_eq!(record.to_bytes(), stored);
+        assert_eq!(Record::from_bytes(&record.to_bytes()), Ok(record));
+    }
+}
+
+#[test]
+fn an_old_record_that_a_campaign_goes_on_with_is_stored_in_the_present_form() {
+    let old = Record::from_bytes(OLD).expect("a stored record");
+    assert_ne!(old, record(0));
+    let plan = plan();
+    let campaign = Campaign::resume(&plan, old).expect("it fits");
+    assert_eq!(campaign.record(), &record(0));
+    let present = [&STORED[..4], &[2, 0, 0, 0], &OLD[8..26], &[0; 12]];
+    assert_eq!(campaign.record().to_bytes(), present.concat());
 }
 
 #[test]
