@@ -1,4 +1,4 @@
--- When a plan opens, and what a draw from it gives (specification, "Stored plan, form 1" and "Refusals"). Assumes nothing.
+-- When a plan opens, and the refusals of the calls that take one (specification, "Stored plan, form 1" and "Refusals"). Assumes nothing.
 use mathlib.Core.Path.{_≡_}
 use mathlib.Core.Bool.{Bool, not, _&&_}
 use mathlib.Core.List.{List, [], _∷_, _++_, map}

@@ -1,4 +1,4 @@
--- The call that tells an array of a stored plan, by its number. Beyond the specification, so that no caller reads bytes. Assumes nothing.
+-- The call that tells an array of a stored plan, by its number (specification, "Which entry set the weight" and "Refusals"). Assumes nothing.
 use mathlib.Core.Bool.{not, _||_}
 use mathlib.Core.List.{List, [], _∷_, _++_}
 use mathlib.Core.Option.{Option}

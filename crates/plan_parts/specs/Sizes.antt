@@ -1,4 +1,4 @@
--- What the call that tells a stored plan's sizes writes. Beyond the specification, so that no caller reads bytes. Assumes nothing.
+-- What the call that tells a stored plan's sizes writes (specification, "From table to campaign"). Assumes nothing.
 use mathlib.Core.List.{List, [], _∷_}
 use Prim.Native.Nat.{ℕ}
 use Rattle.form.specs.Form.{rowsOf, columnsOf, arraysOf, denominatorOf}

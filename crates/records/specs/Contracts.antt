@@ -1,4 +1,4 @@
--- What the functions that test a record are held to: parts of the definitions of Record. Assumes nothing.
+-- What the functions that test a record require, and the parts of the definitions of Record that they are held to. Assumes nothing.
 use mathlib.Core.Path.{_≡_}
 use mathlib.Core.List.{List}
 use mathlib.Core.Bool.{Bool}

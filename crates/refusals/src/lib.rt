@@ -18,7 +18,7 @@ pub enum Refusal {
     Denominator,
     // the cells are not rows times columns many
     CellCount,
-    // a cell above 1000 times the denominator
+    // a cell above 1000 times the denominator, or a correction below -1000 times it; in a table without signs a negative cell is above it, read as its bits
     LargeCell,
     // form, zero field, sizes, an offset or the length of a stored plan wrong
     Layout,

@@ -1,4 +1,4 @@
--- What functions inside may rely on once a table is accepted, and what the division of an entry gives. Assumes nothing.
+-- What inner functions, here and in crates above, may rely on once a table is accepted, and what the division of an entry requires and gives. Assumes nothing.
 use mathlib.Core.Path.{_≡_}
 use mathlib.Core.List.{List}
 use Prim.Native.Nat.{ℕ, _+_, _*_, _<_, _≤_, _%_, _^_}

@@ -1,4 +1,4 @@
-// The division of an entry that is not below zero by a weight, on which rounding, limits and opening rest.
+// The division of an entry that is not below zero by a weight, on which rounding, limits, opening, reasons and variances rest.
 ghost use Rattle.table.specs.Contracts.{Dividable, Divides};
 use base::convert::i64_to_u64;
 use base::convert::u64_to_i64;

@@ -1,4 +1,4 @@
--- What the readers of a view answer (specification, "An opened plan is a view over the lent bytes and copies none of them."). Assumes nothing.
+-- What the readers of a view answer (specification, "Stored plan, form 1": "An opened plan is a view over the lent bytes"). Assumes nothing.
 use mathlib.Core.Path.{_≡_}
 use mathlib.Core.Bool.{Bool, cond, _&&_}
 use mathlib.Core.List.{List}

@@ -1,8 +1,9 @@
 //! Literal cases of every call: what it is given, what it returns and what it leaves,
-//! typed out by hand from the specification, 01. The proved definitions are held to
-//! the same tables, with the same rows in the same order: `specs/Examples.antt` of
-//! each crate but `bits`, `division` and `records`, and for runs `specs/Campaigns.antt`
-//! of `demands`.
+//! typed out by hand from the papers, 01 and 02. The proved definitions are held to the
+//! same tables, with the same rows in the same order: `specs/Examples.antt` of the crates,
+//! and for runs `specs/Campaigns.antt` of `demands`. The tables there of what is no call
+//! are not here: those of `bits`, `division`, `multiples`, `records` and `view`, and some of
+//! `opening` and `variance_text`.
 
 pub mod campaign;
 pub mod check;
