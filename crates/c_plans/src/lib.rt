@@ -12,7 +12,7 @@ ghost use Rattle.opening.specs.Open.{openAnswer, openedNumber, partRefusal};
 ghost use Rattle.drawing.specs.Draw.{drawRefusal, drawnArray};
 ghost use Rattle.plan_parts.specs.Sizes.{sizeNumbers};
 ghost use Rattle.plan_parts.specs.Array.{buffers, arrayRefusal, arrayInto};
-ghost use Rattle.variances.specs.Covariance.{numerators};
+ghost use Rattle.variances.specs.Variance.{numerators};
 
 // Opens a stored plan: 0, or the refusal's number.
 #[no_mangle]

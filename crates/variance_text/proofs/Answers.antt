@@ -14,7 +14,7 @@ use Rattle.opening.specs.declared.Opened.the-variants as opened
 use Rattle.opening.specs.Open.{openRefusal, Opens, openAnswer}
 use Rattle.opening.proofs.Opening.{is-open, is-refused}
 use Rattle.variances.specs.declared.Numerators.{Numerators}
-use Rattle.variances.specs.Covariance.{numerators}
+use Rattle.variances.specs.Variance.{numerators}
 use Rattle.variances.specs.Contracts.{numeratorsOf, Measured}
 use Rattle.printing.specs.Lines.{decimal, refused}
 use Rattle.printing.specs.Write.{Wrote}

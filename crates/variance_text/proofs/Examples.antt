@@ -8,7 +8,8 @@ use Rattle.refusals.specs.Due.{due}
 use Rattle.byte_numbers.specs.Bytes.{number}
 use Rattle.form.specs.Form.{decode, headRight, laidOut}
 use Rattle.opening.specs.Open.{consistent, openRefusal}
-use Rattle.variances.specs.Covariance.{covariance, extreme, covariances, numerators}
+use Rattle.covariances.specs.Covariance.{covariance, extreme, covariances}
+use Rattle.variances.specs.Variance.{numerators}
 use Rattle.printing.specs.Lines.{digits, decimal, spaced, line, refused}
 use Rattle.variance_text.specs.VarianceText.{signed, restOfLine, planText, goesOn, printedFrom, toRead, plansTo, programText}
 use Rattle.variance_text.specs.Examples.{numbers, numerals, heads, programs}

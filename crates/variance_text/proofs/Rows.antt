@@ -11,9 +11,10 @@ use Rattle.refusals.specs.Numbers.{numberOf}
 use Rattle.refusals.specs.Due.{refusedOr}
 use Rattle.form.specs.Form.{decode}
 use Rattle.opening.specs.Open.{openRefusal}
+use Rattle.covariances.specs.Covariance.{lift}
 use Rattle.variances.specs.declared.Numerators.{Numerators}
-use Rattle.variances.specs.Covariance.{numerators}
-use Rattle.variances.specs.Contracts.{lift, numeratorsOf}
+use Rattle.variances.specs.Variance.{numerators}
+use Rattle.variances.specs.Contracts.{numeratorsOf}
 use Rattle.printing.specs.Lines.{decimal, spaced, line, refused}
 use Rattle.printing.specs.Contracts.{Room}
 use Rattle.printing.specs.Write.{Wrote}

@@ -5,7 +5,7 @@ use Prim.Native.Nat.{ℕ, suc, _+_, _-_, _<_, _≤_}
 use native.Mathlib.Omega.{arith}
 use lib.IntN.{ℤ, pos, negsuc, subℕ}
 use lib.ListN.{length}
-use Rattle.variances.specs.Contracts.{lift}
+use Rattle.covariances.specs.Covariance.{lift}
 use Rattle.base.proofs.Differences.{sub-below, sub-above}
 use Rattle.printing.specs.Lines.{decimal}
 use Rattle.printing.specs.Contracts.{Room}

@@ -9,7 +9,7 @@ use Rattle.refusals.specs.Numbers.{numberOf}
 use Rattle.refusals.specs.Due.{refusedOr}
 use Rattle.form.specs.Form.{lengthOf, startRight, decode}
 use Rattle.opening.specs.Open.{openRefusal}
-use Rattle.variances.specs.Covariance.{numerators}
+use Rattle.variances.specs.Variance.{numerators}
 use Rattle.printing.specs.Lines.{decimal, refused}
 
 -- a number in base ten; before one below zero stands byte 45, a minus sign

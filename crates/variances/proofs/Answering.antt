@@ -16,7 +16,7 @@ use Rattle.opening.specs.declared.Opened.the-variants as opened
 use Rattle.opening.specs.Open.{openAnswer, partRefusal}
 use Rattle.plan_parts.proofs.Telling.{not-open, too-short, told}
 use Rattle.variances.specs.declared.Numerators.{Numerators}
-use Rattle.variances.specs.Covariance.{numerators}
+use Rattle.variances.specs.Variance.{numerators}
 use Rattle.variances.specs.Contracts.{numeratorsOf, Measured}
 
 module _ (b : List ℕ) (old : List ℤ) {o : Opened} (is : o ≡ openAnswer b) where

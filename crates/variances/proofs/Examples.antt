@@ -8,7 +8,8 @@ use Rattle.refusals.specs.Due.{due, answerOf, after}
 use Rattle.byte_numbers.specs.Bytes.{number}
 use Rattle.form.specs.Form.{decode, headRight, laidOut}
 use Rattle.opening.specs.Open.{consistent, partRefusal}
-use Rattle.variances.specs.Covariance.{covariance, extreme, covariances, numerators}
+use Rattle.covariances.specs.Covariance.{covariance, extreme, covariances}
+use Rattle.variances.specs.Variance.{numerators}
 use Rattle.variances.specs.Examples.{cases, told, said}
 
 pub cases-told : map told cases ≡ map said cases

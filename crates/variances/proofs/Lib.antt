@@ -1,9 +1,5 @@
-pub mod Covariances
-mod Folds
-mod Rows
+mod Covariances
 mod Measuring
-mod Products
-mod Outcomes
 mod Signs
 mod Answering
 mod Examples

@@ -1,18 +1,39 @@
--- The variance of a cell, a lifted covariance, and their bounds. Assumes nothing.
-use mathlib.Core.Path.{_≡_, ap, ap₂}
-use mathlib.Core.List.{List}
-use Prim.Native.Nat.{ℕ, _+_, _-_, _*_, _%_, _<_, _≤_}
+-- The variance of a cell, the sum of all, and the three numerators of a plan. Assumes nothing.
+use mathlib.Core.Path.{_≡_, refl, sym, ap, ap₂, _∙_}
+use mathlib.Core.List.{List, [], _∷_}
+use Prim.Native.Nat.{ℕ, zero, suc, _+_, _-_, _*_, _%_, _<_, _≤_}
 use native.Mathlib.Nat.{mod-lt, mul-le-mul, mul-le-mul-right}
 use native.Mathlib.Omega.{arith}
-use lib.ListN.{length, getD}
+use lib.IntN.{pos, _+ℤ_}
+use lib.ListN.{length, getD, take, replicate, length-replicate}
 use mir.Val.{Fits}
 use mir.Syntax.{w64}
+use Rattle.base.specs.Lists.{tabulate, sumTo, sumℤ}
+use Rattle.base.specs.Buffers.{written}
 use Rattle.base.specs.Contracts.{Widened}
+use Rattle.base.proofs.Lists.{tabulate-ext}
+use Rattle.base.proofs.Buffers.{written-front}
+use Rattle.base.proofs.Sums.{sum-front}
+use Rattle.base.proofs.SumLoops.{Summed, summed-all}
 use Rattle.table.specs.Contracts.{Dividable, Divides}
 use Rattle.table.specs.declared.whole.Divided.{Divided}
-use Rattle.base.proofs.SumLoops.{Summed, summed-all}
-use Rattle.variances.specs.Contracts.{lift, lifted, DenominatorWithin, VariancesOf, Liftable, ExtremesReady}
-use Rattle.variances.specs.Covariance.{roundingVariance}
+use Rattle.weighted_arrays.specs.Plan.{cellCount}
+use Rattle.form.specs.declared.Sizes.{Sizes}
+use Rattle.form.specs.Form.{decode}
+use Rattle.reading.specs.Contracts.{Sized, HasTable}
+use Rattle.reading.proofs.Readings.{cells-length}
+use Rattle.reading.proofs.Sizing.{cells-are, denominator-is, sized-few, sized-some, sized-denominator, has-table}
+use Rattle.reading.proofs.Scratch.{scratch-room}
+use Rattle.opening.specs.declared.Opened.the-variants as opened
+use Rattle.opening.specs.Open.{openAnswer}
+use Rattle.opening.proofs.Opening.{opened-sized, sizes-product}
+use Rattle.covariances.specs.declared.Extremes.{Extremes}
+use Rattle.covariances.specs.Covariance.{cellCovariance}
+use Rattle.covariances.specs.Contracts.{CellsReady, Extremal}
+use Rattle.covariances.proofs.Products.{ready-sound, ready-some, cells-many, cells-few}
+use Rattle.variances.specs.Variance.{roundingVariance, numerators}
+use Rattle.variances.specs.Contracts.{DenominatorWithin, SumReady, variancesOf, VariancesOf, Measured}
+use Rattle.variances.proofs.Covariances.{cell-variance-is}
 
 module _ {d : ℕ} (h : DenominatorWithin d) (g : ℕ) where
   module _ {w e : ℕ} (a : Widened 4294967296 d w) (b : Widened 4294967296 g e) where
@@ -38,14 +59,6 @@ module _ {d : ℕ} (h : DenominatorWithin d) (g : ℕ) where
       pub variance-is : Widened 4294967296 (roundingVariance d g) (q .rest * (w - q .rest))
       variance-is = record { is = ap₂ (λ (f n : ℕ). f * (n - f)) rest-is (a .is); small = omega (arith, variance-small) }
 
--- places of a row
-module _ {d a : ℕ} {cells sums : List ℕ} (h : ExtremesReady d cells a sums) {b : ℕ} (l : b < a) where
-  pub sum-there : b < length sums
-  sum-there = omega (arith, h .there, h .few, h .room)
-
-  pub cell-there : b < length cells
-  cell-there = omega (arith, h .there)
-
 -- the variances added up so far leave room for the next
 pub variances-fit : {f : ℕ → ℕ} {k s : ℕ} → Summed f 4294967296 k s → k < 144 → (x : ℕ) → x < 4294967296 → Fits w64 (s + x)
 variances-fit {k = k} m h x l = let most : k ≤ 144 = omega arith in let a : k * 4294967296 ≤ 144 * 4294967296 = mul-le-mul-right 4294967296 most in record { fits = omega (arith, m .small) }
@@ -58,32 +71,58 @@ variances-all {k = k} {s = s} m few {n} e h l =
     let a : n * 4294967296 ≤ 144 * 4294967296 = mul-le-mul-right 4294967296 most in
     record { is = rw e at (q .0); small = omega (arith, q .1) }
 
--- a lifted covariance
-module _ {d s x y : ℕ} (h : Liftable d s x y) where
-  pub scaled-small : d * s ≤ lift
-  scaled-small = mul-le-mul (h .denominator) (h .products)
+-- numbers that are not below zero, added up
+sum-pos : (n : ℕ) (f : ℕ → ℕ) → sumℤ (tabulate n (λ i. pos (f i))) ≡ pos (sumTo n f)
+unfolding sumℤ tabulate sumTo
+sum-pos zero f = refl
+sum-pos (suc n) f = ap (λ z. pos (f 0) +ℤ z) (sum-pos n (λ i. f (suc i))) ∙ ap pos (sym (sum-front n f))
 
-  pub product-small : x * y ≤ lift
-  product-small = mul-le-mul (h .first) (h .second)
+-- a plan's numerators, from its table in a scratch
+module _ (s : Sizes) (b : List ℕ) (o : openAnswer b ≡ opened.Plan s) where
+  sized : Sized s b
+  sized = opened-sized b s o
 
-  pub scaled-fits : Fits w64 (d * s)
-  scaled-fits = record { fits = omega (arith, scaled-small) }
+  pub measure-fits : Fits w64 (s .rows * s .columns)
+  measure-fits = sizes-product b s o
 
-  pub lift-fits : Fits w64 (d * s + lift)
-  lift-fits = record { fits = omega (arith, scaled-small) }
+  pub measure-table : HasTable b (replicate 144 0)
+  measure-table = has-table sized (omega (arith, sized-few sized, length-replicate {A = ℕ} 144 0))
 
-  module _ {u v : ℕ} (a : Widened 4294967296 x u) (b : Widened 4294967296 y v) where
-    same : u * v ≡ x * y
-    same = ap₂ _*_ (a .is) (b .is)
+  module _ (scratch : List ℕ) (e : scratch ≡ written (decode b .cells) (replicate 144 0)) where
+    abbrev table : List ℕ
+    table = take (s .rows * s .columns) scratch
 
-    pub cells-fit : Fits w64 (u * v)
-    cells-fit = record { fits = omega (arith, same, product-small) }
+    long : length (decode b .cells) ≡ s .rows * s .columns
+    long = cells-length b ∙ cells-are sized
 
-    pub cells-below : u * v ≤ d * s + lift
-    cells-below = omega (arith, same, product-small)
+    pub table-inside : s .rows * s .columns ≤ length scratch
+    table-inside = scratch-room (decode b .cells) long (sized-few sized) e
 
-    pub lifted-is : d * s + lift - u * v ≡ lifted d s x y
-    lifted-is = ap (λ (n : ℕ). d * s + lift - n) same
+    table-is : table ≡ decode b .cells
+    table-is = ap (take (s .rows * s .columns)) e ∙ written-front (decode b .cells) _ long
 
-  pub lifted-small : lifted d s x y ≤ 2 * lift
-  lifted-small = omega (arith, scaled-small)
+    pub table-long : s .rows * s .columns ≡ length table
+    table-long = sym (ap length table-is ∙ long)
+
+    pub table-ready : CellsReady s b table
+    table-ready = record { is-open = o; cells-are = table-is }
+
+    pub variances-ready : SumReady (s .denominator) table
+    variances-ready = record { denominator = record { some = sized-some sized; most = sized-denominator sized }; few = cells-few table-ready }
+
+    variances-sum : sumℤ (tabulate (cellCount (decode b)) (λ a. cellCovariance (decode b) a a)) ≡ pos (variancesOf (s .denominator) table)
+    variances-sum =
+        let n = cellCount (decode b) in
+        let d = decode b .denominator in
+        let g = decode b .cells in
+        ap sumℤ (tabulate-ext n _ (λ i. pos (roundingVariance d (getD g i 0))) (λ i h. cell-variance-is (ready-sound table-ready) (ready-some table-ready) i h))
+        ∙ sum-pos n (λ i. roundingVariance d (getD g i 0))
+        ∙ rw (denominator-is sized, ← cells-many table-ready, ← table-is) refl
+
+    pub measured : {v : ℕ} → VariancesOf (s .denominator) table v → {x : Extremes} → Extremal (decode b) x
+        → Measured (decode b) (record { variances = v; smallest = x .low; largest = x .high })
+    unfolding numerators
+    measured q {x} m = record {
+      is = ap₂ _∷_ (ap pos (q .is) ∙ sym variances-sum) (ap₂ _∷_ (m .smallest-is) (ap (λ z. z ∷ []) (m .largest-is)));
+      small = record { variances = q .small; smallest = m .low-small; largest = m .high-small };
+    }

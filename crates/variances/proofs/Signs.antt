@@ -10,7 +10,8 @@ use mir.Syntax.{w64}
 use mir.Val.{SFits}
 use mir.Facts.{toZ-ofZ}
 use Rattle.variances.specs.declared.Numerators.{Numerators}
-use Rattle.variances.specs.Contracts.{lift, numeratorsOf, WriteReady}
+use Rattle.covariances.specs.Covariance.{lift}
+use Rattle.variances.specs.Contracts.{numeratorsOf, WriteReady}
 use Rattle.base.proofs.Differences.{sub-below, sub-above, sub-none}
 use Rattle.base.proofs.Signs.{there, signed-is}
 

@@ -9,7 +9,7 @@ use Rattle.form.specs.Form.{decode}
 use Rattle.form.specs.Examples.{square, wide, recurring}
 use Rattle.opening.specs.Examples.{threeOnes, grandVaries, oneCell, zeros}
 use Rattle.opening.specs.Open.{partRefusal}
-use Rattle.variances.specs.Covariance.{numerators}
+use Rattle.variances.specs.Variance.{numerators}
 
 -- the listing of the specification: two by two, D 10, cells 3 4 5 6
 abbrev pub listed : List ℕ

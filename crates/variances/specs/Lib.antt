@@ -1,3 +1,3 @@
-pub mod Covariance
+pub mod Variance
 pub mod Contracts
 pub mod Examples

@@ -8,35 +8,20 @@ ghost use Rattle.table.specs.Table.{total};
 ghost use Rattle.weighted_arrays.specs.Plan.{Plan, cellCount};
 ghost use Rattle.form.specs.Form.{decode};
 ghost use Rattle.opening.specs.Open.{heldTo, Opens};
-ghost use Rattle.variances.specs.Covariance.{at, weightedProducts, covariance, cellCovariance, variance, overPairs, roundingVariance};
-ghost use Rattle.variances.specs.Contracts.{lift};
+ghost use Rattle.covariances.specs.Covariance.{at, weightedProducts, covariance, cellCovariance, lift};
+ghost use Rattle.variances.specs.Variance.{variance, overPairs, roundingVariance};
 ghost use Rattle.variances.specs.Examples.{cases, told, said};
 
 pub mod call;
 pub mod measure;
-mod pairs;
-mod sums;
 
-// The covariances of the code are lifted by this, the largest product of two cells, so that none is below zero.
-pub const LIFT: u64 = 4294836225000000;
-
-// The three numerators of a plan: the sum of all cell variances, and the smallest and the largest covariance of two different cells, these two lifted.
+// The three numerators of a plan: the sum of all cell variances, and the smallest and the largest covariance of two different cells, these two lifted
+// by `covariances::LIFT`.
 pub struct Numerators {
     pub variances: u64,
     pub smallest: u64,
     pub largest: u64,
 }
-
-// The smallest and the largest of some numbers.
-pub struct Extremes {
-    pub low: u64,
-    pub high: u64,
-}
-
-// The constants of the code are the bounds of the definitions.
-pub fn bounds()
-    ensures lift { λ _. do ⌜ (← ⟦LIFT⟧ .entry) ≡ lift ⌝ }
-{}
 
 // Of any plan: a covariance does not depend on the order of its two, and the variance of a total over some places is the sum of the covariances over all
 // their ordered pairs. Of every plan that opens: the variance of a cell, and of any entry that the plan is held to, is f·(D - f), f the remainder of the

@@ -1,5 +1,5 @@
 use Rattle.variances.proofs.Covariances.{symmetric, variance-pairs, opened-variance, opened-cell}
-use Rattle.variances.proofs.Outcomes.{opened-bounded}
+use Rattle.covariances.proofs.Outcomes.{opened-bounded}
 use Rattle.variances.proofs.Examples.{cases-told}
 use Rattle.variances.proofs.claims.Statement.{statement}
 use Rattle.variances.proofs.claims.Tie as tie

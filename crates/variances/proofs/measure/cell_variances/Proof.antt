@@ -2,7 +2,7 @@ use Prim.Native.Nat.{_≤_, _-_}
 use mathlib.Core.Path.{_≡_}
 use lib.ListN.{length, getD}
 use Rattle.base.proofs.SumLoops.{Summed, summed-none, summed-more}
-use Rattle.variances.specs.Covariance.{roundingVariance}
+use Rattle.variances.specs.Variance.{roundingVariance}
 use Rattle.variances.proofs.Measuring.{variances-fit, variances-all}
 use native.Mathlib.Omega.{arith}
 use borrow.Author.Needs.{needs}

@@ -1,4 +1,4 @@
-use Rattle.variances.proofs.Outcomes.{measure-fits, measure-table, table-inside, table-long, table-ready, variances-ready, measured}
+use Rattle.variances.proofs.Measuring.{measure-fits, measure-table, table-inside, table-long, table-ready, variances-ready, measured}
 use borrow.Author.Needs.{needs}
 use Rattle.variances.proofs.measure.measure.Statement.{statement}
 use Rattle.variances.proofs.measure.measure.Tie as tie

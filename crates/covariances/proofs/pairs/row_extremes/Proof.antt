@@ -1,11 +1,11 @@
 use Prim.Native.Nat.{_≤_, _-_, min, max}
 use native.Mathlib.Omega.{arith}
-use Rattle.variances.specs.Contracts.{liftedRow}
-use Rattle.variances.proofs.Measuring.{sum-there, cell-there}
-use Rattle.variances.proofs.Folds.{FoldedTo, folded-none, folded-more, folded-all}
+use Rattle.covariances.specs.Contracts.{liftedRow}
+use Rattle.covariances.proofs.Lifting.{sum-there, cell-there}
+use Rattle.covariances.proofs.Folds.{FoldedTo, folded-none, folded-more, folded-all}
 use borrow.Author.Needs.{needs}
-use Rattle.variances.proofs.pairs.row_extremes.Statement.{statement}
-use Rattle.variances.proofs.pairs.row_extremes.Tie as tie
+use Rattle.covariances.proofs.pairs.row_extremes.Statement.{statement}
+use Rattle.covariances.proofs.pairs.row_extremes.Tie as tie
 
 abbrev Inv-loop : tie.InvT-loop
 Inv-loop d cells a sums low₀ high₀ b₀ low high b = (b ≤ a) × FoldedTo min low₀ (liftedRow d cells a sums) b low × FoldedTo max high₀ (liftedRow d cells a sums) b high

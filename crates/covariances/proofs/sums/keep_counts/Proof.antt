@@ -4,13 +4,13 @@ use lib.ListN.{length}
 use native.Mathlib.Omega.{arith}
 use Rattle.weighted_arrays.specs.Plan.{cellCount}
 use Rattle.form.specs.Form.{decode}
-use Rattle.variances.specs.Contracts.{Kept}
+use Rattle.covariances.specs.Contracts.{Kept}
 use Rattle.reading.proofs.Readings.{counts-length}
 use Rattle.reading.proofs.Sizing.{arrays-are, cells-are, sized-arrays, sized-few, has-counts}
-use Rattle.variances.proofs.Rows.{kept-none, part-inside, part-length, kept-more, kept-all}
+use Rattle.covariances.proofs.Rows.{kept-none, part-inside, part-length, kept-more, kept-all}
 use borrow.Author.Needs.{needs}
-use Rattle.variances.proofs.sums.keep_counts.Statement.{statement}
-use Rattle.variances.proofs.sums.keep_counts.Tie as tie
+use Rattle.covariances.proofs.sums.keep_counts.Statement.{statement}
+use Rattle.covariances.proofs.sums.keep_counts.Tie as tie
 
 abbrev Inv-loop : tie.InvT-loop
 Inv-loop plan counts₀ k₀ k-end counts k = (k ≤ k-end) × (k-end ≤ 170) × (k-end ≡ length (decode plan .arrays)) × Kept (decode plan .arrays) (cellCount (decode plan)) k counts

@@ -23,7 +23,7 @@ use Rattle.weighted_arrays.specs.Contracts.{SumsTo, Addable, Increased}
 use Rattle.opening.proofs.Opening.{is-open, opened-sized}
 use Rattle.opening.proofs.Opens.{weights-add-up}
 use Rattle.weighted_arrays.proofs.Weighting.{sums-addable, sums-more-at}
-use Rattle.variances.specs.Contracts.{maxCounts, Kept, factors, RowReady}
+use Rattle.covariances.specs.Contracts.{maxCounts, Kept, factors, RowReady}
 
 -- a part of a list put in the place of another as long
 module _ (xs ys : List ℕ) (at m : ℕ) (inside : at + m ≤ length xs) (e : length ys ≡ m) where

@@ -1,7 +1,7 @@
-use Rattle.variances.proofs.Measuring.{scaled-fits, lift-fits, cells-fit, cells-below, lifted-is}
+use Rattle.covariances.proofs.Lifting.{scaled-fits, lift-fits, cells-fit, cells-below, lifted-is}
 use borrow.Author.Needs.{needs}
-use Rattle.variances.proofs.pairs.lifted.Statement.{statement}
-use Rattle.variances.proofs.pairs.lifted.Tie as tie
+use Rattle.covariances.proofs.pairs.lifted.Statement.{statement}
+use Rattle.covariances.proofs.pairs.lifted.Tie as tie
 
 mul-result : tie.Need-mul-result
 mul-result c = search (needs, scaled-fits)

@@ -4,7 +4,7 @@ ghost use Prim.Native.Nat.{min, max};
 ghost use Rattle.base.specs.Lists.{tabulate};
 ghost use Rattle.weighted_arrays.specs.Plan.{cellCount};
 ghost use Rattle.form.specs.Form.{decode};
-ghost use Rattle.variances.specs.Contracts.{lifted, Liftable, liftedRow, ExtremesReady, ExtremesOf, liftedPair, liftedPairs, CellsReady, RowsReady, RowAt, widest, Extremal};
+ghost use Rattle.covariances.specs.Contracts.{lifted, Liftable, liftedRow, ExtremesReady, ExtremesOf, liftedPair, liftedPairs, CellsReady, RowsReady, RowAt, widest, Extremal};
 use crate::Extremes;
 use crate::LIFT;
 use crate::sums::keep_counts;

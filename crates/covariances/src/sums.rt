@@ -3,7 +3,7 @@ ghost use lib.ListN.{length};
 ghost use Rattle.weighted_arrays.specs.Plan.{cellCount};
 ghost use Rattle.form.specs.Form.{decode};
 ghost use Rattle.weighted_arrays.specs.Contracts.{SumsTo};
-ghost use Rattle.variances.specs.Contracts.{KeepReady, Kept, RowReady, factors};
+ghost use Rattle.covariances.specs.Contracts.{KeepReady, Kept, RowReady, factors};
 use base::convert::u16_to_u32;
 use form::Sizes;
 use reading::read_array;

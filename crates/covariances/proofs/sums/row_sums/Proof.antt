@@ -4,11 +4,11 @@ use lib.ListN.{length}
 use native.Mathlib.Omega.{arith}
 use Rattle.form.specs.Form.{decode}
 use Rattle.weighted_arrays.specs.Contracts.{SumsTo}
-use Rattle.variances.specs.Contracts.{factors}
-use Rattle.variances.proofs.Rows.{row-many, row-has, row-start, row-place, row-bytes, row-place-bytes, row-inside, row-end, row-addable, factor-fits, row-more, row-all}
+use Rattle.covariances.specs.Contracts.{factors}
+use Rattle.covariances.proofs.Rows.{row-many, row-has, row-start, row-place, row-bytes, row-place-bytes, row-inside, row-end, row-addable, factor-fits, row-more, row-all}
 use borrow.Author.Needs.{needs}
-use Rattle.variances.proofs.sums.row_sums.Statement.{statement}
-use Rattle.variances.proofs.sums.row_sums.Tie as tie
+use Rattle.covariances.proofs.sums.row_sums.Statement.{statement}
+use Rattle.covariances.proofs.sums.row_sums.Tie as tie
 
 abbrev Inv-loop : tie.InvT-loop
 Inv-loop plan counts a sums₀ k₀ k-end sums k = (k ≤ k-end) × (k-end ≡ length (decode plan .arrays)) × SumsTo (factors (decode plan .arrays) a) (decode plan .arrays) a k sums

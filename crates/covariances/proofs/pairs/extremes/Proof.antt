@@ -1,8 +1,8 @@
-use Rattle.variances.proofs.Products.{keep-ready}
-use Rattle.variances.proofs.Outcomes.{extremal, extremal-none}
+use Rattle.covariances.proofs.Products.{keep-ready}
+use Rattle.covariances.proofs.Outcomes.{extremal, extremal-none}
 use borrow.Author.Needs.{needs}
-use Rattle.variances.proofs.pairs.extremes.Statement.{statement}
-use Rattle.variances.proofs.pairs.extremes.Tie as tie
+use Rattle.covariances.proofs.pairs.extremes.Statement.{statement}
+use Rattle.covariances.proofs.pairs.extremes.Tie as tie
 
 returns : tie.Need-returns
 returns c = search (needs, extremal-none)

@@ -2,39 +2,28 @@
 use mathlib.Core.Path.{_≡_, refl, sym, ap, ap₂, _∙_}
 use mathlib.Core.Bool.{true, cond}
 use mathlib.Core.List.{List, [], _∷_, _++_, map, foldl, map-append}
-use Prim.Native.Nat.{ℕ, zero, suc, _+_, _-_, _*_, _<_, _≤_, min, max}
+use Prim.Native.Nat.{ℕ, zero, suc, _-_, _*_, _<_, _≤_, min, max}
 use native.Mathlib.Decide.{decLt}
 use native.Mathlib.Nat.{min-eq-left, min-eq-right, max-eq-left, max-eq-right, min-le-left, max-le, le-trans, le-refl}
 use native.Mathlib.Omega.{arith}
-use lib.IntN.{ℤ, pos, subℕ, _+ℤ_}
+use lib.IntN.{ℤ, subℕ}
 use lib.Signed.{leZ}
-use lib.ListN.{length, getD, take, replicate, length-append, length-replicate}
-use mir.Val.{Fits}
-use mir.Syntax.{w64}
+use lib.ListN.{length, length-append}
 use lib.Dec.{leb}
 use borrow.Author.Tests.{le-leb, lt-leb, leb-true}
-use Rattle.base.specs.Lists.{tabulate, sumTo, joinTo, all, sumℤ}
-use Rattle.base.specs.Buffers.{written}
-use Rattle.base.proofs.Buffers.{written-front}
-use Rattle.base.proofs.Sums.{sum-front}
+use Rattle.base.specs.Lists.{tabulate, joinTo, all}
 use Rattle.base.proofs.Lists.{and-left, and-right, and-both, all-append, all-tabulate, tabulate-ext, map-tabulate, length-tabulate}
 use Rattle.form.specs.declared.Sizes.{Sizes}
 use Rattle.weighted_arrays.specs.Plan.{Plan, cellCount}
 use Rattle.form.specs.Form.{sizesOf, decode}
-use Rattle.reading.specs.Contracts.{Sized, HasTable}
-use Rattle.reading.proofs.Readings.{cells-length}
-use Rattle.reading.proofs.Sizing.{cells-are, denominator-is, sized-few, sized-some, sized-denominator, has-table}
-use Rattle.opening.specs.declared.Opened.the-variants as opened
-use Rattle.opening.specs.Open.{Opens, openAnswer}
-use Rattle.opening.proofs.Opening.{opens-answer, opened-sized, sizes-product}
-use Rattle.reading.proofs.Scratch.{scratch-room}
-use Rattle.variances.specs.declared.Extremes.{Extremes}
-use Rattle.variances.specs.Covariance.{at, weightedProducts, covariance, cellCovariance, smaller, larger, extreme, covariances, numerators, roundingVariance}
-use Rattle.variances.specs.Contracts.{lift, Measured, liftedPair, liftedPairs, CellsReady, ExtremesOf, widest, Extremal, SumReady, variancesOf, VariancesOf}
+use Rattle.opening.specs.Open.{Opens}
+use Rattle.opening.proofs.Opening.{opens-answer}
+use Rattle.covariances.specs.declared.Extremes.{Extremes}
+use Rattle.covariances.specs.Covariance.{at, weightedProducts, covariance, cellCovariance, smaller, larger, extreme, covariances, lift}
+use Rattle.covariances.specs.Contracts.{liftedPair, liftedPairs, CellsReady, ExtremesOf, widest, Extremal}
 use Rattle.base.proofs.Differences.{sub-below, sub-above, sub-same}
-use Rattle.variances.proofs.Measuring.{scaled-small, product-small, lifted-small}
-use Rattle.variances.proofs.Covariances.{cell-variance-is}
-use Rattle.variances.proofs.Products.{ready-sound, ready-some, pair-liftable, cells-many, cells-few}
+use Rattle.covariances.proofs.Lifting.{scaled-small, product-small, lifted-small}
+use Rattle.covariances.proofs.Products.{pair-liftable, cells-many}
 
 -- what was lifted, as it was
 abbrev low : ℕ → ℤ
@@ -152,62 +141,6 @@ module _ {s : Sizes} {b cells : List ℕ} (r : CellsReady s b cells) where
   extremal-none h =
       let few : cellCount p < 2 = omega (arith, cells-many r) in
       record { smallest-is = none-is smaller few; largest-is = none-is larger few; low-small = omega arith; high-small = omega arith }
-
--- numbers that are not below zero, added up
-sum-pos : (n : ℕ) (f : ℕ → ℕ) → sumℤ (tabulate n (λ i. pos (f i))) ≡ pos (sumTo n f)
-unfolding sumℤ tabulate sumTo
-sum-pos zero f = refl
-sum-pos (suc n) f = ap (λ z. pos (f 0) +ℤ z) (sum-pos n (λ i. f (suc i))) ∙ ap pos (sym (sum-front n f))
-
--- a plan's numerators, from its table in a scratch
-module _ (s : Sizes) (b : List ℕ) (o : openAnswer b ≡ opened.Plan s) where
-  sized : Sized s b
-  sized = opened-sized b s o
-
-  pub measure-fits : Fits w64 (s .rows * s .columns)
-  measure-fits = sizes-product b s o
-
-  pub measure-table : HasTable b (replicate 144 0)
-  measure-table = has-table sized (omega (arith, sized-few sized, length-replicate {A = ℕ} 144 0))
-
-  module _ (scratch : List ℕ) (e : scratch ≡ written (decode b .cells) (replicate 144 0)) where
-    abbrev table : List ℕ
-    table = take (s .rows * s .columns) scratch
-
-    long : length (decode b .cells) ≡ s .rows * s .columns
-    long = cells-length b ∙ cells-are sized
-
-    pub table-inside : s .rows * s .columns ≤ length scratch
-    table-inside = scratch-room (decode b .cells) long (sized-few sized) e
-
-    table-is : table ≡ decode b .cells
-    table-is = ap (take (s .rows * s .columns)) e ∙ written-front (decode b .cells) _ long
-
-    pub table-long : s .rows * s .columns ≡ length table
-    table-long = sym (ap length table-is ∙ long)
-
-    pub table-ready : CellsReady s b table
-    table-ready = record { is-open = o; cells-are = table-is }
-
-    pub variances-ready : SumReady (s .denominator) table
-    variances-ready = record { denominator = record { some = sized-some sized; most = sized-denominator sized }; few = cells-few table-ready }
-
-    variances-sum : sumℤ (tabulate (cellCount (decode b)) (λ a. cellCovariance (decode b) a a)) ≡ pos (variancesOf (s .denominator) table)
-    variances-sum =
-        let n = cellCount (decode b) in
-        let d = decode b .denominator in
-        let g = decode b .cells in
-        ap sumℤ (tabulate-ext n _ (λ i. pos (roundingVariance d (getD g i 0))) (λ i h. cell-variance-is (ready-sound table-ready) (ready-some table-ready) i h))
-        ∙ sum-pos n (λ i. roundingVariance d (getD g i 0))
-        ∙ rw (denominator-is sized, ← cells-many table-ready, ← table-is) refl
-
-    pub measured : {v : ℕ} → VariancesOf (s .denominator) table v → {x : Extremes} → Extremal (decode b) x
-        → Measured (decode b) (record { variances = v; smallest = x .low; largest = x .high })
-    unfolding numerators
-    measured q {x} m = record {
-      is = ap₂ _∷_ (ap pos (q .is) ∙ sym variances-sum) (ap₂ _∷_ (m .smallest-is) (ap (λ z. z ∷ []) (m .largest-is)));
-      small = record { variances = q .small; smallest = m .low-small; largest = m .high-small };
-    }
 
 -- neither side of a covariance is large
 pub opened-bounded : (b : List ℕ) → Opens b → (i j : ℕ) → i < cellCount (decode b) → j < cellCount (decode b)

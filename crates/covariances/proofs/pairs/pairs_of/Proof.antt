@@ -1,7 +1,7 @@
-use Rattle.variances.proofs.Products.{row-ready, row-extremes-ready, row-is}
+use Rattle.covariances.proofs.Products.{row-ready, row-extremes-ready, row-is}
 use borrow.Author.Needs.{needs}
-use Rattle.variances.proofs.pairs.pairs_of.Statement.{statement}
-use Rattle.variances.proofs.pairs.pairs_of.Tie as tie
+use Rattle.covariances.proofs.pairs.pairs_of.Statement.{statement}
+use Rattle.covariances.proofs.pairs.pairs_of.Tie as tie
 
 row-sums-requires : tie.Need-row-sums-requires
 row-sums-requires c κs = search (needs, row-ready)

@@ -2,10 +2,10 @@ use Prim.Native.Nat.{_≤_, _-_}
 use mathlib.Core.Path.{_≡_}
 use lib.ListN.{length}
 use Rattle.form.specs.Form.{decode}
-use Rattle.variances.proofs.Products.{RowsTo, rows-none, rows-at, rows-more, rows-all}
+use Rattle.covariances.proofs.Products.{RowsTo, rows-none, rows-at, rows-more, rows-all}
 use borrow.Author.Needs.{needs}
-use Rattle.variances.proofs.pairs.all_pairs.Statement.{statement}
-use Rattle.variances.proofs.pairs.all_pairs.Tie as tie
+use Rattle.covariances.proofs.pairs.all_pairs.Statement.{statement}
+use Rattle.covariances.proofs.pairs.all_pairs.Tie as tie
 
 abbrev Inv-loop : tie.InvT-loop
 Inv-loop plan s cells counts low₀ high₀ a₀ a-end low high a = (a ≤ a-end) × (a-end ≡ length cells) × RowsTo (decode plan) a low high

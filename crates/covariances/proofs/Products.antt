@@ -19,11 +19,11 @@ use Rattle.weighted_arrays.specs.Contracts.{SumsTo}
 use Rattle.opening.proofs.Opening.{is-open, opened-sized}
 use Rattle.opening.proofs.Sound.{Sound, sound}
 use Rattle.weighted_arrays.proofs.Weighting.{sums-none}
-use Rattle.variances.specs.declared.Extremes.{Extremes}
-use Rattle.variances.specs.Covariance.{at, weightedProducts}
-use Rattle.variances.specs.Contracts.{lift, KeepReady, factors, RowReady, Liftable, liftedRow, ExtremesReady, ExtremesOf, liftedPair, liftedPairs, CellsReady, RowsReady, RowAt, widest}
-use Rattle.variances.proofs.Covariances.{products-most}
-use Rattle.variances.proofs.Folds.{joined-more}
+use Rattle.covariances.specs.declared.Extremes.{Extremes}
+use Rattle.covariances.specs.Covariance.{at, weightedProducts, lift}
+use Rattle.covariances.specs.Contracts.{KeepReady, factors, RowReady, Liftable, liftedRow, ExtremesReady, ExtremesOf, liftedPair, liftedPairs, CellsReady, RowsReady, RowAt, widest}
+use Rattle.covariances.proofs.Counts.{products-most}
+use Rattle.covariances.proofs.Folds.{joined-more}
 
 -- an opened plan with its cells
 module _ {s : Sizes} {b cells : List ℕ} (r : CellsReady s b cells) where

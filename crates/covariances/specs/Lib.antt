@@ -1,0 +1,2 @@
+pub mod Covariance
+pub mod Contracts
