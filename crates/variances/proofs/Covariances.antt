@@ -11,10 +11,11 @@ use lib.ListN.{getD}
 use Rattle.base.specs.Lists.{sum, sumℤ}
 use Rattle.base.proofs.Lists.{all-at-member}
 use Rattle.base.proofs.Sums.{list-add, list-ext, list-zero}
-use Rattle.table.specs.Table.{total, cellPlaces}
+use Rattle.table.specs.Table.{total, cellPlaces, rowPlaces}
 use Rattle.table.specs.Whole.{roundsTo}
 use Rattle.table.proofs.Roundings.{rounds-low, rounds-high, gap-le}
 use Rattle.table.proofs.Totals.{total-cell}
+use Rattle.table.proofs.EntryTests.{entries-each}
 use Rattle.weighted_arrays.specs.Plan.{Weighted, Plan, cellCount}
 use Rattle.form.specs.Form.{decode}
 use Rattle.form.proofs.Layouts.{laid}
@@ -160,6 +161,12 @@ module _ {p : Plan} (o : Sound p) (some : 0 < p .denominator) where
       ∙ rounded-variance (cellPlaces i) (λ a m. cell-entry o some a m i h)
       ∙ ap (λ (e : ℕ). pos (roundingVariance d e)) (total-cell (p .cells) i)
 
+  -- so the covariances over all ordered pairs of a row's cells add up to that
+  pub row-pairs : (i : ℕ) → i < p .rows → overPairs p (rowPlaces (p .columns) i) ≡ pos (roundingVariance d (total (p .cells) (rowPlaces (p .columns) i)))
+  row-pairs i h =
+      let s = rowPlaces (p .columns) i in
+      sym (variance-pairs p s) ∙ rounded-variance s (λ a m. entries-each (p .rows) (p .columns) _ (all-at-member (held p) _ (o .meets .rounded) m) .rows i h)
+
 -- of a plan that opens
 module _ (b : List ℕ) (h : Opens b) where
   opened-some : 0 < decode b .denominator
@@ -171,3 +178,7 @@ module _ (b : List ℕ) (h : Opens b) where
 
   pub opened-cell : (k : ℕ) → k < cellCount (decode b) → cellCovariance (decode b) k k ≡ pos (roundingVariance (decode b .denominator) (getD (decode b .cells) k 0))
   opened-cell = cell-variance-is (sound b h) opened-some
+
+  pub opened-row : (i : ℕ) → i < decode b .rows
+      → overPairs (decode b) (rowPlaces (decode b .columns) i) ≡ pos (roundingVariance (decode b .denominator) (total (decode b .cells) (rowPlaces (decode b .columns) i)))
+  opened-row = row-pairs (sound b h) opened-some

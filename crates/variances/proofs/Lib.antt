@@ -1,4 +1,5 @@
 mod Covariances
+mod Extremes
 mod Measuring
 mod Signs
 mod Answering

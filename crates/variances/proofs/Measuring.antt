@@ -47,17 +47,18 @@ module _ {d : ℕ} (h : DenominatorWithin d) (g : ℕ) where
       pub rest-within : q .rest ≤ w
       rest-within = omega (arith, rest-is, a .is, mod-lt g (h .some))
 
-      pub variance-small : q .rest * (w - q .rest) ≤ 4294836225
-      variance-small =
+      -- the product is small, whatever is taken off D
+      variance-small : (x : ℕ) → q .rest * (w - x) ≤ 4294836225
+      variance-small x =
           let first : q .rest ≤ 65535 = omega (arith, rest-within, a .is, h .most) in
-          let second : w - q .rest ≤ 65535 = omega (arith, a .is, h .most) in
+          let second : w - x ≤ 65535 = omega (arith, a .is, h .most) in
           mul-le-mul first second
 
-      pub variance-fits : Fits w64 (q .rest * (w - q .rest))
-      variance-fits = record { fits = omega (arith, variance-small) }
+      pub variance-fits : (x : ℕ) → Fits w64 (q .rest * (w - x))
+      variance-fits x = record { fits = omega (arith, variance-small x) }
 
       pub variance-is : Widened 4294967296 (roundingVariance d g) (q .rest * (w - q .rest))
-      variance-is = record { is = ap₂ (λ (f n : ℕ). f * (n - f)) rest-is (a .is); small = omega (arith, variance-small) }
+      variance-is = record { is = ap₂ (λ (f n : ℕ). f * (n - f)) rest-is (a .is); small = omega (arith, variance-small (q .rest)) }
 
 -- the variances added up so far leave room for the next
 pub variances-fit : {f : ℕ → ℕ} {k s : ℕ} → Summed f 4294967296 k s → k < 144 → (x : ℕ) → x < 4294967296 → Fits w64 (s + x)
