@@ -2,7 +2,7 @@
 ghost use Prim.Native.Nat.{_≤_};
 ghost use lib.ListN.{length};
 ghost use Rattle.form.specs.Form.{maxLength};
-ghost use Rattle.variance_text.specs.Contracts.{HasRead};
+ghost use Rattle.variance_text.specs.Read.{HasRead};
 use form::MAX_LENGTH;
 use libc::STDIN_FILENO;
 use libc::STDOUT_FILENO;

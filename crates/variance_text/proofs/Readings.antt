@@ -10,7 +10,7 @@ use mir.Val.{Fits}
 use mir.Syntax.{w64}
 use Rattle.form.specs.Form.{maxLength}
 use Rattle.variance_text.specs.VarianceText.{toRead}
-use Rattle.variance_text.specs.Contracts.{PlanLength, HasRead}
+use Rattle.variance_text.specs.Read.{PlanLength, HasRead}
 use Rattle.variance_text.proofs.Starts.{short-eight, read-least}
 
 pub eight-count : (x : List ℕ) → maxLength ≤ length x → 8 ≡ length (take 8 x)
@@ -30,14 +30,15 @@ module _ (x h : List ℕ) (i : ℕ) (room : maxLength ≤ length x) (kept : leng
   pub head-count : i ≡ length (take i (h ++ drop 8 x))
   head-count = sym (length-take-le i (h ++ drop 8 x) head-inside)
 
+  -- j of some bytes more were read into t
+  pub sum-fits : (t : List ℕ) (j : ℕ) → j ≤ length t → length t ≤ maxLength → Fits w64 (i + j)
+  sum-fits t j more most = record { fits = omega (arith, eight) }
+
   -- the bytes from there on become t, of which the first j were read
   module _ (n : ℕ) (long : PlanLength (take i (h ++ drop 8 x)) n) (t : List ℕ) (j : ℕ) where
     module _ (same : length t ≡ length (take (n - 8) (drop 8 (h ++ drop 8 x)))) (more : j ≤ length t) where
       rest : length t ≡ n - 8
       rest = same ∙ length-take-le (n - 8) _ (omega (arith, length-drop 8 (h ++ drop 8 x), first-length, long .most))
-
-      pub sum-fits : Fits w64 (i + j)
-      sum-fits = record { fits = omega (arith, eight, rest, long .most) }
 
       abbrev after : List ℕ
       after = take 8 (h ++ drop 8 x) ++ (t ++ drop (n - 8) (drop 8 (h ++ drop 8 x)))

@@ -11,7 +11,7 @@ use Rattle.base.proofs.Lists.{and-right}
 use Rattle.form.specs.Form.{lengthOf, startRight}
 use Rattle.form.proofs.Layouts.{length-least, length-most}
 use Rattle.variance_text.specs.VarianceText.{toRead}
-use Rattle.variance_text.specs.Contracts.{PlanLength}
+use Rattle.variance_text.specs.Read.{PlanLength}
 
 module _ (b : List ℕ) where
   pub short-eight : length b < 8 → toRead b ≡ 8

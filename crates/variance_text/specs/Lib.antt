@@ -1,4 +1,4 @@
 pub mod VarianceText
 pub mod Write
-pub mod Contracts
+pub mod Read
 pub mod Examples

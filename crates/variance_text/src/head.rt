@@ -1,5 +1,5 @@
 // How many bytes a plan has, by its first eight.
-ghost use Rattle.variance_text.specs.Contracts.{PlanLength};
+ghost use Rattle.variance_text.specs.Read.{PlanLength};
 use form::layout::length_of;
 use form::layout::start_right;
 

@@ -1,3 +1,5 @@
+use native.Mathlib.Omega.{arith}
+use lib.ListN.{length-take}
 use Rattle.variance_text.proofs.Readings.{eight-count, head-inside, head-count, sum-fits, has-read}
 use borrow.Author.Needs.{needs}
 use Rattle.plan_variances.proofs.read_plan.Statement.{statement}
@@ -19,9 +21,8 @@ add-result c =
     let first = length .before .before .before .before in
     let start = first .before .before .before in
     sum-fits (start .args .plan .now) (first .read-full .last .1 .0) _
-    (start .pre) (first .read-full .kept .1 .0) (first .read-full .ensures .0) _
-    (length .plan-length .ensures) (second .read-full2 .last .1 .0) _
-    (second .read-full2 .kept .1 .0) (second .read-full2 .ensures .0)
+    (start .pre) (first .read-full .kept .1 .0) (first .read-full .ensures .0) (second .read-full2 .last .1 .0) _
+    (second .read-full2 .ensures .0) (omega (arith, simp length-take at (second .read-full2 .kept .1 .0), length .plan-length .ensures .most))
 
 returns : tie.Need-returns
 returns c = search (needs, has-read)

@@ -1,4 +1,4 @@
--- How much is read of an input for each plan. Assumes nothing.
+-- How much is read of an input for each plan (specification, "The variance program"). Assumes nothing.
 use mathlib.Core.Path.{_≡_}
 use mathlib.Core.List.{List}
 use Prim.Native.Nat.{ℕ, _≤_}
@@ -12,7 +12,7 @@ pub record PlanLength (b : List ℕ) (r : ℕ) : Type 0 where
   pub least : 8 ≤ r
   pub most : r ≤ maxLength
 
--- the first n bytes of a buffer are those of a plan, or the first of them: no more than belong to a plan that begins with their first eight
+-- n bytes lie in a buffer from its start on, and are no more than belong to a plan that begins with the first eight of them
 pub record HasRead (buffer : List ℕ) (n : ℕ) : Type 0 where
   pub inside : n ≤ length buffer
   pub no-more : n ≤ toRead (take 8 (take n buffer))
