@@ -104,18 +104,19 @@ static uint32_t limit_of(struct rounding entry)
 /* Checks the reason of an array: it names the first entry whose limit is the weight, and no limit is below it. */
 static void check(int array, const uint32_t reason[LUFODIMI_REASON])
 {
-    int first = ENTRIES;
-    for (int at = ENTRIES - 1; at >= 0; at--) {
-        const uint32_t limit = limit_of(rounding_of(array, entries[at]));
-        expect("the weight", limit >= weights[array]);
-        if (limit == weights[array]) {
-            first = at;
-        }
+    for (int at = 0; at < ENTRIES; at++) {
+        expect("the weight", limit_of(rounding_of(array, entries[at])) >= weights[array]);
     }
-    expect("an entry that bears no more", first < ENTRIES);
+    /* The search stays within the entries: where no limit is the weight it ends at the last one, whose limit then is another. */
+    int first = 0;
+    while (first < ENTRIES - 1 && limit_of(rounding_of(array, entries[first])) != weights[array]) {
+        first++;
+    }
+    const struct rounding set_by = rounding_of(array, entries[first]);
+    expect("an entry that bears no more", limit_of(set_by) == weights[array]);
     expect("the kind", reason[0] == entries[first].kind);
     expect("row and column", reason[1] == entries[first].row && reason[2] == entries[first].column);
-    expect("the direction", reason[3] == direction_of(rounding_of(array, entries[first])));
+    expect("the direction", reason[3] == direction_of(set_by));
     expect("the last array", (reason[3] == LUFODIMI_ALL_WHOLE) == (array == arrays - 1));
 }
 

@@ -133,9 +133,9 @@ mod tests {
         for _ in 0..2000 {
             let nodes = generator.between(2, 6) as usize;
             let mut capacities = vec![vec![0; nodes]; nodes];
-            for from in 0..nodes {
+            for (from, row) in capacities.iter_mut().enumerate() {
                 for to in (0..nodes).filter(|&to| to != from) {
-                    capacities[from][to] = generator.below(5) * generator.below(2);
+                    row[to] = generator.below(5) * generator.below(2);
                 }
             }
             let expected = smallest_cut(&capacities, 0, nodes - 1);
