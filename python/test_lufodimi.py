@@ -3,6 +3,7 @@ import os
 import pathlib
 import subprocess
 import sys
+import tempfile
 import unittest
 
 sys.dont_write_bytecode = True
@@ -449,6 +450,51 @@ class Tests(unittest.TestCase):
         self.assertRaises(TypeError, lufodimi.Plan, 96)
         self.assertRaises(TypeError, lufodimi.Plan, None)
         self.assertRaises(TypeError, campaign, 23)
+
+    def month(self, folder):
+        """What python/month.py ends with, and prints, where it keeps its files in a folder."""
+        example = pathlib.Path(lufodimi.__file__).with_name("month.py")
+        words = [sys.executable, "-B", str(example), str(folder)]
+        ended = subprocess.run(words, stdout=subprocess.PIPE, stderr=subprocess.PIPE, universal_newlines=True)
+        return ended.returncode, ended.stdout.splitlines(), ended.stderr
+
+    def test_month_example(self):
+        with tempfile.TemporaryDirectory() as room:
+            folder, drawn, numbers = pathlib.Path(room, "robot"), [0] * 12, set()
+            for month in range(1, 11):
+                status, lines, errors = self.month(folder)
+                self.assertEqual((status, errors, len(lines)), (0, "", 5))
+                self.assertEqual(lines[0].split(), ["open", "tablets", "ampoules", "insulin", "infusions"])
+                self.assertEqual([line.split()[0] for line in lines[1:4]], ["front", "middle", "cold"])
+                counts = [int(word) for line in lines[1:4] for word in line.split()[1:]]
+                drawn = [sum(pair) for pair in zip(drawn, counts)]
+                last = (folder / "draws").read_text().splitlines()[-1]
+                self.assertIn(": round 1, number ", last)
+                ends = "rounds completed 0, left in this round %d of 10" % (10 - month) if month < 10 else "rounds completed 1, left in this round 10 of 10"
+                self.assertEqual(lines[4], f"{last}; {ends}")
+                numbers.add(int(last.split()[-1]))
+                plan = lufodimi.Plan((folder / "plan").read_bytes())
+                self.assertEqual(plan.draw(int(last.split()[-1])), counts)
+                self.assertEqual(lufodimi.Campaign(plan, (folder / "record").read_bytes()).tally, drawn)
+            self.assertEqual((drawn, numbers), (STANDING, set(range(10))))
+            self.assertEqual(sorted(file.name for file in folder.iterdir()), ["draws", "plan", "record"])
+
+    def test_month_example_without_what_it_kept(self):
+        with tempfile.TemporaryDirectory() as room:
+            folder = pathlib.Path(room, "robot")
+            self.month(folder)
+            for name, stored in (("record", None), ("record", b"LUFR"), ("plan", lufodimi.plan(2, 2, 10, CELLS)), ("plan", b"")):
+                before = (folder / name).read_bytes()
+                if stored is None:
+                    (folder / name).unlink()
+                else:
+                    (folder / name).write_bytes(stored)
+                status, lines, errors = self.month(folder)
+                self.assertEqual((status, lines), (1, []))
+                self.assertTrue(errors.startswith("month.py: nothing is drawn: "), errors)
+                (folder / name).write_bytes(before)
+            self.assertEqual(len((folder / "draws").read_text().splitlines()), 1)
+            self.assertEqual(self.month(folder)[0], 0)
 
     def test_missing_library(self):
         folder = pathlib.Path(lufodimi.__file__).parent

@@ -2,8 +2,9 @@
 //!
 //! The number is drawn evenly among those that are free, from the random numbers of the
 //! operating system. The example plays two rounds of a campaign, one month after another,
-//! and shows what no draw changes: in each round each cell is drawn as often as planned.
-//! The second round begins by itself.
+//! prints how many cartons to open in each, a zone after another, and shows what no draw
+//! changes: in each round each cell is drawn as often as planned. The second round begins
+//! by itself.
 
 use lufodimi::{Campaign, Plan, Record, Table};
 use std::error::Error;
@@ -12,15 +13,19 @@ use std::io::{self, Read};
 use std::path::Path;
 use std::{env, process};
 
+/// Three shelf zones by four carton kinds, tenths of a carton a month.
+const CELLS: [u32; 12] = [45, 23, 0, 12, 31, 26, 4, 19, 0, 14, 52, 14];
+
 fn main() -> Result<(), Box<dyn Error>> {
-    let plan = Plan::of(&Table::new(2, 2, 10, [3, 4, 5, 6])?);
+    let plan = Plan::of(&Table::new(3, 4, 10, CELLS)?);
     let file = env::temp_dir().join(format!("lufodimi-month-{}", process::id()));
     keep(&file, Campaign::start(&plan).record())?;
     for month in 1..=2 * plan.denominator() {
         let mut campaign = kept(&plan, &file)?;
         let counts = draw(&mut campaign, &file)?;
-        let (cells, rounds) = (counts.len(), campaign.rounds());
-        println!("month {month}: counts for {cells} cells, rounds completed: {rounds}");
+        let zones: Vec<&[u16]> = counts.chunks(4).collect();
+        let rounds = campaign.rounds();
+        println!("month {month}: open {zones:?}, rounds completed: {rounds}");
     }
     let campaign = kept(&plan, &file)?;
     fs::remove_file(&file)?;
@@ -28,7 +33,7 @@ fn main() -> Result<(), Box<dyn Error>> {
     println!("drawn in both rounds: {:?}", campaign.tally());
     assert_eq!(
         (campaign.rounds(), campaign.tally()),
-        (2, &[6, 8, 10, 12][..])
+        (2, &CELLS.map(|cell| 2 * u64::from(cell))[..])
     );
     Ok(())
 }
