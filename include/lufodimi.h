@@ -9,7 +9,7 @@
  * negative cell, handed over as its bits, is above every bound and refused (4).
  *
  * Every call checks what it is lent. It returns LUFODIMI_DONE, and lufodimi_plan the plan's length, or the number of the first refusal
- * that applies, in the order of their numbers, but 11, 12 and 14 before 7, and 13 before 10. A refusal changes no buffer.
+ * that applies: a call's comment lists its refusals in the order in which they are tested. A refusal changes no buffer.
  *
  * What a call is lent:
  * - A length counts elements, not bytes. A pointer is never null, not even with length 0, and is aligned for its elements.
@@ -115,8 +115,8 @@ uint32_t lufodimi_round_signed(uint32_t rows, uint32_t columns, uint32_t denomin
                                int16_t *counts, size_t counts_length);
 
 /* Pools two tables of the same rows and columns: writes the least common multiple of their denominators, one number, and the cells over
- * it, rows times columns numbers, in row order, each exactly the sum of the two expected counts. Refusals 1, 2, 3, 4, 11, 12, 7, in this
- * order; 2, 3 and 4 apply if they apply to either table. */
+ * it, rows times columns numbers, in row order, each exactly the sum of the two expected counts. Refusals 1, 2, 3, 4, 11, 12, 7; 2, 3 and
+ * 4 apply if they apply to either table. */
 uint32_t lufodimi_pool(uint32_t rows, uint32_t columns,
                        uint32_t first_denominator, const uint32_t *first, size_t first_length,
                        uint32_t second_denominator, const uint32_t *second, size_t second_length,
@@ -132,7 +132,7 @@ uint32_t lufodimi_plan(uint32_t rows, uint32_t columns, uint32_t denominator,
  * what is left, cell or total, bears some weight of it before it leaves its bounds, its limit, and the smallest limit is the weight. Writes
  * LUFODIMI_REASON numbers about the first entry whose limit is the weight, cells in row order first, then row totals, column totals and the
  * grand total: its kind, its row and its column from 1, 0 where the kind has none, and its direction. For the last array, and for no other,
- * all entries are whole: LUFODIMI_CELL, 1, 1, LUFODIMI_ALL_WHOLE. Refusals 1, 2, 3, 4, 14, 7, in this order. */
+ * all entries are whole: LUFODIMI_CELL, 1, 1, LUFODIMI_ALL_WHOLE. Refusals 1, 2, 3, 4, 14, 7. */
 uint32_t lufodimi_reason(uint32_t rows, uint32_t columns, uint32_t denominator,
                          const uint32_t *cells, size_t cells_length, uint32_t array,
                          uint32_t *reply, size_t reply_length);
@@ -150,7 +150,7 @@ uint32_t lufodimi_sizes(const uint8_t *plan, size_t plan_length, uint32_t *sizes
 uint32_t lufodimi_cells(const uint8_t *plan, size_t plan_length, uint32_t *cells, size_t cells_length);
 
 /* Writes one of a plan's arrays, which are counted from 1: its weight, one number, and rows times columns counts, in row order. Refusals 5,
- * 6, 14, 7, in this order. */
+ * 6, 14, 7. */
 uint32_t lufodimi_array(const uint8_t *plan, size_t plan_length, uint32_t array,
                         uint32_t *weight, size_t weight_length, uint16_t *counts, size_t counts_length);
 
@@ -162,7 +162,7 @@ uint32_t lufodimi_draw(const uint8_t *plan, size_t plan_length, uint32_t number,
  * variances, the smallest and then the largest covariance of two different cells; the last two are 0 and 0 for a plan of one cell. The
  * numerator of the covariance of two cells is the denominator times the weighted sum of the products of their counts, minus the product of
  * their table cells, and it is negative if one tends to replace the other; a cell's variance is its covariance with itself. Refusals 5, 6,
- * 7, in this order. */
+ * 7. */
 uint32_t lufodimi_variances(const uint8_t *plan, size_t plan_length, int64_t *numerators, size_t numerators_length);
 
 /* Starts a campaign, whatever the record held: sets to zero the count, the rounds, (denominator + 7) / 8 bytes of bits, one bit for each
@@ -174,7 +174,7 @@ uint32_t lufodimi_start(const uint8_t *plan, size_t plan_length, struct lufodimi
  * byte number / 8) and counts it. The last free number completes the round: one is added to the rounds, and the count and the
  * (denominator + 7) / 8 bytes of bits are set to zero, so that the next round begins with all numbers free; the tally goes on. The count
  * is thus never the denominator. After LUFODIMI_MOST_ROUNDS rounds no number is taken any more (13). Bits and tally need what a start
- * sets. Refusals 5, 6, 7, 8, 9, 13, 10, in this order. */
+ * sets. Refusals 5, 6, 7, 8, 9, 13, 10. */
 uint32_t lufodimi_campaign_draw(const uint8_t *plan, size_t plan_length, uint32_t number, struct lufodimi_record *record,
                                 uint8_t *bits, size_t bits_length, uint64_t *tally, size_t tally_length,
                                 uint16_t *counts, size_t counts_length);

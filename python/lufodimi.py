@@ -8,8 +8,8 @@
 
 The shared object is the repository's target/lib/liblufodimi.so, which `scripts/library` makes; LUFODIMI_LIBRARY names it if it stands elsewhere.
 
-What the library turns back is a Refusal; an integer beyond 32 bits is an OverflowError, and bytes that are no stored record are a ValueError. None of them
-changes anything. Counts, cells, sums and numbers come as lists of integers.
+What the library turns back is a Refusal; where several apply it is the first, in the order in which a call lists them. An integer beyond 32 bits is an
+OverflowError, and bytes that are no stored record are a ValueError. None of them changes anything. Counts, cells, sums and numbers come as lists of integers.
 """
 from __future__ import annotations
 
@@ -262,7 +262,7 @@ class Campaign:
 
     def draw(self, number: int) -> list[int]:
         """Takes a number and gives its array; the last free number completes the round. Chances hold only if it is drawn evenly among the free ones.
-        Refusals 8, 13, 10, in this order."""
+        Refusals 8, 13, 10."""
         counts = (c_uint16 * len(self.plan.cells))()
         _call("campaign_draw", self.plan.stored, len(self.plan.stored), _word(number), *self._lent, counts, len(counts))
         return list(counts)

@@ -28,7 +28,7 @@ extern "C" {
 
     /// Takes a number: writes its array, adds it to the tally, sets its bit and counts
     /// it. The last free number completes the round: one is added to the rounds, and the
-    /// count and all bits become zero. Refusals 5, 6, 7, 8, 9, 13, 10, in this order.
+    /// count and all bits become zero. Refusals 5, 6, 7, 8, 9, 13, 10.
     ///
     /// # Safety
     ///

@@ -3,8 +3,8 @@
 //! The functions named `lufodimi_` are the C calls as `include/lufodimi.h` declares them.
 //! Beside each stands a safe function that lends slices with their lengths and hands on
 //! what the call returns: 0, and of planning the plan's length, or the number of the first
-//! refusal that applies, in the order of their numbers, but 11, 12 and 14 before 7, and 13
-//! before 10. A refusal changes no buffer. The crate `lufodimi` makes types of all this.
+//! refusal that applies. Each call lists its refusals in the order in which they are
+//! tested. A refusal changes no buffer. The crate `lufodimi` makes types of all this.
 //!
 //! Make the library once with `scripts/library` in the repository. The variable
 //! `LUFODIMI_LIB_DIR` names another folder than the repository's own `target/lib`.

@@ -25,7 +25,7 @@ extern "C" {
     ) -> u32;
 
     /// Writes the weight of an array of a stored plan, one number, and its counts, in row
-    /// order. Arrays are counted from 1. Refusals 5, 6, 14, 7, tested in this order.
+    /// order. Arrays are counted from 1. Refusals 5, 6, 14, 7.
     ///
     /// # Safety
     ///

@@ -1,8 +1,8 @@
 extern "C" {
     /// Pools two tables of the same rows and columns: writes the least common multiple of
     /// their denominators, one number, and the pooled cells, rows times columns numbers in
-    /// row order. Refusals 1, 2, 3, 4, 11, 12, 7, tested in this order; 2, 3 and 4 apply
-    /// if they apply to either table.
+    /// row order. Refusals 1, 2, 3, 4, 11, 12, 7; 2, 3 and 4 apply if they apply to
+    /// either table.
     ///
     /// # Safety
     ///

@@ -17,7 +17,7 @@ pub const LUFODIMI_UP: u32 = 2;
 extern "C" {
     /// Writes four numbers about the first entry whose limit is the weight of an array of
     /// a table's plan, counted from 1: kind, row and column from 1, 0 where the kind has
-    /// none, and direction. Refusals 1, 2, 3, 4, 14, 7, tested in this order.
+    /// none, and direction. Refusals 1, 2, 3, 4, 14, 7.
     ///
     /// # Safety
     ///

@@ -2,8 +2,7 @@ use core::error::Error;
 use core::fmt::{self, Debug, Display, Formatter};
 
 /// Why something was refused. A refusal changes nothing; of several that apply, the first
-/// is returned, in the order of their numbers, but 11, 12 and 14 before 7, and 13 before
-/// 10.
+/// is returned, in the order that the call in `lufodimi-sys` lists.
 ///
 /// It displays as a sentence without its end, and `Debug`, which the `?` of `main`
 /// prints, adds the number.
