@@ -221,7 +221,7 @@ cases =
     -- a cell of 1000·D and of one more, over D 1, with its count
     ∷ gives (set (set (oneCell 1 232 1 232) 25 3) 29 3) 0
     ∷ gives (set (set (oneCell 1 233 1 233) 25 3) 29 3) 6
-    -- of two cells the second is 1000·D, the second is one more, the first is
+    -- of two cells the second is 1000·D, the second is one more, the first is one more
     ∷ gives (set (set (set (set (zeros 1 2 32 12) 28 232) 29 3) 34 232) 35 3) 0
     ∷ gives (set (set (set (set (zeros 1 2 32 12) 28 233) 29 3) 34 233) 35 3) 6
     ∷ gives (set (set (set (set (zeros 1 2 32 12) 24 233) 25 3) 32 233) 33 3) 6

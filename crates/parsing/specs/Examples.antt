@@ -1,5 +1,5 @@
 -- Texts, and what they are parsed to (specification, "The printing program"). Assumes nothing.
-use mathlib.Core.List.{List, [], _∷_, _++_, map}
+use mathlib.Core.List.{List, [], _∷_, _++_}
 use mathlib.Core.Option.{Option, some, none}
 use Prim.Native.Nat.{ℕ, _+_}
 use lib.ListN.{replicate}
@@ -57,7 +57,8 @@ parses =
     -- 1 2 4294967295 and 1 2 4294967296
     ∷ reads (49 ∷ 32 ∷ 50 ∷ 32 ∷ 52 ∷ 50 ∷ 57 ∷ 52 ∷ 57 ∷ 54 ∷ 55 ∷ 50 ∷ 57 ∷ 53 ∷ []) (1 ∷ 2 ∷ 4294967295 ∷ [])
     ∷ refuses (49 ∷ 32 ∷ 50 ∷ 32 ∷ 52 ∷ 50 ∷ 57 ∷ 52 ∷ 57 ∷ 54 ∷ 55 ∷ 50 ∷ 57 ∷ 54 ∷ [])
-    -- a number above 4,294,967,295 of which only the low 32, 64 or 128 bits are not, and at each place
+    -- numbers of which only the low 32, 64 or 128 bits are no more than 4,294,967,295: 1 2 4294967297, 4294967297 2 3, 1 4294967297 3, 1 2 3 4294967297,
+    -- 1 2 18446744073709551616, 1 2 18446744073709551617 and 1 2 340282366920938463463374607431768211457
     ∷ refuses (49 ∷ 32 ∷ 50 ∷ 32 ∷ 52 ∷ 50 ∷ 57 ∷ 52 ∷ 57 ∷ 54 ∷ 55 ∷ 50 ∷ 57 ∷ 55 ∷ [])
     ∷ refuses (52 ∷ 50 ∷ 57 ∷ 52 ∷ 57 ∷ 54 ∷ 55 ∷ 50 ∷ 57 ∷ 55 ∷ 32 ∷ 50 ∷ 32 ∷ 51 ∷ [])
     ∷ refuses (49 ∷ 32 ∷ 52 ∷ 50 ∷ 57 ∷ 52 ∷ 57 ∷ 54 ∷ 55 ∷ 50 ∷ 57 ∷ 55 ∷ 32 ∷ 51 ∷ [])

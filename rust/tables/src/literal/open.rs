@@ -265,7 +265,7 @@ pub fn cases() -> Vec<Case> {
         // a cell of 1000·D and of one more, over D 1, with its count
         gives(changed(&one_cell(1, 232, 1, 232), &[(25, 3), (29, 3)]), 0),
         gives(changed(&one_cell(1, 233, 1, 233), &[(25, 3), (29, 3)]), 6),
-        // of two cells the second is 1000·D, the second is one more, the first is
+        // of two cells the second is 1000·D, the second is one more, the first is one more
         gives(two_cells(28, 34, 232), 0),
         gives(two_cells(28, 34, 233), 6),
         gives(two_cells(24, 32, 233), 6),

@@ -61,8 +61,7 @@ pub fn parses() -> Vec<Parse> {
         // the largest number, and one more
         reads("1 2 4294967295", &[1, 2, 4_294_967_295]),
         refuses("1 2 4294967296"),
-        // a number above 4,294,967,295 of which only the low 32, 64 or 128 bits are not, and
-        // at each place
+        // numbers of which only the low 32, 64 or 128 bits are no more than 4,294,967,295
         refuses("1 2 4294967297"),
         refuses("4294967297 2 3"),
         refuses("1 4294967297 3"),
