@@ -33,7 +33,7 @@ pub fn checks(calls: &mut Calls) -> Result<(), Difference> {
 }
 
 fn checked(calls: &mut Calls, table: &GivenTable, number: u32) -> Result<(), Difference> {
-    let call = Planning::of(&mut Generator::new(0), table, 200);
+    let call = Planning::of(&mut Generator::new(0), table, 50_912);
     let found = calls.compare(&call)?.refusal();
     require(found == number, || {
         format!("before: {call:?}\nboth answer by {found}, the papers by {number}\n")
