@@ -10,8 +10,7 @@ use Rattle.base.specs.Lists.{all}
 use Rattle.refusals.specs.declared.Refusal.{Refusal}
 use Rattle.refusals.specs.Due.{Test, due}
 use Rattle.table.specs.Table.{maxExpected}
-use Rattle.table.specs.declared.Checked.{Checked}
-use Rattle.table.specs.Check.{cellTests, checkOfCells}
+use Rattle.table.specs.Check.{cellTests}
 
 -- a cell is from -1000·D to 1000·D
 abbrev pub cellWithin : ℕ → ℤ → Bool
@@ -26,7 +25,3 @@ tableTests r c d g = cellTests r c d (length g) (cellsWithin d g)
 
 unfoldable pub tableRefusal : ℕ → ℕ → ℕ → List ℤ → Option Refusal
 tableRefusal r c d g = due (tableTests r c d g)
-
--- the sizes are accepted if none of these applies
-unfoldable pub checkOf : ℕ → ℕ → ℕ → List ℤ → Checked
-checkOf r c d g = checkOfCells r c d (length g) (cellsWithin d g)

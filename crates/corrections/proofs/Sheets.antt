@@ -10,14 +10,15 @@ use Rattle.refusals.specs.declared.Refusal.{Refusal}
 use Rattle.refusals.specs.declared.Refusal.the-variants.{Buffer}
 use Rattle.refusals.specs.Due.{Test, refuse, due}
 use Rattle.refusals.proofs.Dues.{due-first, due-second}
-use Rattle.table.specs.Check.{checkOfCells}
+use Rattle.table.specs.Contracts.{checkOfCells}
 use Rattle.table.specs.declared.Table.{Table}
 use Rattle.table.specs.declared.Checked.{Checked}
 use Rattle.table.specs.declared.Checked.the-variants.{Accepted, Refused}
 use Rattle.table.proofs.Checks.{answered-refused, answered-nothing, answered-sizes}
 use Rattle.base.specs.Buffers.{written}
 use Rattle.corrections.specs.Rounding.{firstRounding}
-use Rattle.correction_check.specs.Check.{tableTests, tableRefusal, checkOf}
+use Rattle.correction_check.specs.Check.{tableTests, tableRefusal}
+use Rattle.correction_check.specs.Contracts.{checkOf}
 use Rattle.correction_check.proofs.Accepted.{accepted-sizes}
 use Rattle.corrections.specs.Call.{roundRefusal}
 

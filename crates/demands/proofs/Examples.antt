@@ -8,7 +8,7 @@ use Rattle.base.specs.Lists.{tabulate, sum, sumTo, joinTo, least, all}
 use Rattle.refusals.specs.Due.{due, answerOf, after}
 use Rattle.table.specs.Table.{total, entryPlaces}
 use Rattle.table.specs.Whole.{whole, gap, roundsTo}
-use Rattle.table.specs.Check.{checkOfCells, checkOf, checkedNumber}
+use Rattle.table.specs.Contracts.{checkOfCells, checkOf, checkedNumber}
 use Rattle.cell_order.specs.Order.{nthRow, nthColumn, rank}
 use Rattle.first_rounding.specs.Order.{inOrder, arrayOf, firstOf}
 use Rattle.is_rounding.specs.Rounding.{isRounding}

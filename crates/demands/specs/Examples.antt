@@ -5,7 +5,7 @@ use Prim.Native.Nat.{ℕ, _+_, _*_, _≤_}
 use lib.ListN.{replicate}
 use Rattle.base.specs.Lists.{tabulate}
 use Rattle.table.specs.Table.{maxRows, maxColumns, maxDenominator}
-use Rattle.table.specs.Check.{checkedNumber, checkOf}
+use Rattle.table.specs.Contracts.{checkedNumber, checkOf}
 use Rattle.weighted_arrays.specs.Plan.{Plan, arrayFor}
 use Rattle.form.specs.Form.{decode}
 use Rattle.form.specs.Examples.{square}

@@ -8,10 +8,9 @@ use native.Mathlib.Nat.{div-le-self}
 use native.Mathlib.Omega.{arith}
 use lib.ListN.{length, getD, List·getD-eq-default}
 use Rattle.base.specs.Lists.{tabulate, sumTo}
-use Rattle.table.specs.Table.{maxEntry}
 use Rattle.grid.specs.Contracts.{gridAt, gridOf}
 use Rattle.table.specs.Whole.{down, up, gap}
-use Rattle.table.specs.Contracts.{Shape}
+use Rattle.table.specs.Contracts.{Shape, maxEntry}
 use Rattle.base.proofs.Lists.{length-tabulate}
 use Rattle.base.proofs.Listing.{listed-at}
 use Rattle.base.proofs.Sums.{sum-ext, sum-add}

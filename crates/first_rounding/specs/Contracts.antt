@@ -6,9 +6,8 @@ use Prim.Native.Nat.{ℕ, _+_, _-_, _*_, _/_, _%_, _<_, _≤_}
 use lib.ListN.{length, getD}
 use lib.Dec.{eqb}
 use Rattle.base.specs.Lists.{tabulate, sumTo}
-use Rattle.table.specs.Table.{maxEntry}
 use Rattle.table.specs.Whole.{down, up, gap}
-use Rattle.table.specs.Contracts.{Shape}
+use Rattle.table.specs.Contracts.{Shape, maxEntry}
 use Rattle.grid.specs.Contracts.{gridOf}
 use Rattle.first_rounding.specs.First.{firstRounding}
 

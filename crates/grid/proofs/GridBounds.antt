@@ -5,9 +5,9 @@ use native.Mathlib.Decide.{decLt}
 use native.Mathlib.Nat.{mul-le-mul}
 use native.Mathlib.Omega.{arith}
 use lib.ListN.{getD, List·getD-eq-default}
-use Rattle.table.specs.Table.{maxEntry, total}
+use Rattle.table.specs.Table.{total}
 use Rattle.grid.specs.Contracts.{gridAt, gridOf}
-use Rattle.table.specs.Contracts.{IsTable}
+use Rattle.table.specs.Contracts.{IsTable, maxEntry}
 use Rattle.table.proofs.Totals.{total-none}
 use Rattle.grid.proofs.GridPlaces.{grid-entry, length-grid}
 use Rattle.grid.proofs.GridTests.{grid-each}

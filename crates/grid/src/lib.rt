@@ -5,8 +5,7 @@ ghost use Prim.Native.Nat.{ℕ};
 ghost use lib.ListN.{getD};
 ghost use Rattle.table.specs.Table.{entries};
 ghost use Rattle.grid.specs.Contracts.{gridAt, gridOf, gridOrder};
-ghost use Rattle.table.specs.Check.{checkOf};
-ghost use Rattle.table.specs.Contracts.{Shape};
+ghost use Rattle.table.specs.Contracts.{Shape, checkOf};
 use table::Checked;
 use table::Table;
 use table::sums::sum;
@@ -54,7 +53,7 @@ pub fn entries(t: Table, cells: &[u32]) -> [u64; 169]
 }
 
 // What holds of every accepted table: the grid has its entries, in their order, at the places of `gridOrder`.
-pub fn claims()
-    ensures order { λ _. ⌜ ((r c d : ℕ) (g : List ℕ) (t : Table) → Checked.Accepted t ≡ checkOf r c d g
+pub fn in_order()
+    ensures { λ _. ⌜ ((r c d : ℕ) (g : List ℕ) (t : Table) → Checked.Accepted t ≡ checkOf r c d g
         → entries r c g ≡ map (λ k. getD (gridOf r c g) k 0) (gridOrder r c)) ⌝ }
 {}

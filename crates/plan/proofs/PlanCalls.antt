@@ -14,8 +14,8 @@ use Rattle.refusals.specs.declared.Refusal.the-variants.{Buffer}
 use Rattle.refusals.specs.Due.{refusedOr, after}
 use Rattle.refusals.proofs.Dues.{first-none}
 use Rattle.refusals.proofs.Numbering.{number-small}
-use Rattle.table.specs.Contracts.{IsTable}
-use Rattle.table.specs.Check.{tableTests, tableRefusal, checkOf}
+use Rattle.table.specs.Contracts.{IsTable, checkOf}
+use Rattle.table.specs.Check.{tableTests, tableRefusal}
 use Rattle.table.specs.declared.Table.{Table}
 use Rattle.table.specs.declared.Checked.{Checked}
 use Rattle.table.specs.declared.Checked.the-variants as checked

@@ -8,9 +8,9 @@ use native.Mathlib.Nat.{mul-le-mul}
 use native.Mathlib.Omega.{arith}
 use lib.ListN.{length, getD, List·getD-eq-default}
 use Rattle.base.proofs.Sums.{list-length}
-use Rattle.table.specs.Table.{total, entryPlaces, maxDenominator, maxEntry}
+use Rattle.table.specs.Table.{total, entryPlaces, maxDenominator}
 use Rattle.table.specs.Whole.{gap}
-use Rattle.table.specs.Contracts.{Shape, IsTable}
+use Rattle.table.specs.Contracts.{Shape, IsTable, maxEntry}
 use Rattle.table.proofs.EntryPlaces.{entries-length}
 use Rattle.table.proofs.Roundings.{gap-le}
 use Rattle.table.proofs.Sizes.{shape-of}

@@ -6,9 +6,9 @@ use Prim.Native.Nat.{ℕ, _-_, _*_, _≤_, _<_, _+_}
 use lib.ListN.{length, getD}
 use Rattle.base.specs.Lists.{tabulate, sum, all}
 use Rattle.grid.specs.Contracts.{gridOf}
-use Rattle.table.specs.Table.{maxDenominator, maxEntry, total, entryPlaces}
+use Rattle.table.specs.Table.{maxDenominator, total, entryPlaces}
 use Rattle.table.specs.Whole.{down, roundsTo, up}
-use Rattle.table.specs.Contracts.{Shape, IsTable}
+use Rattle.table.specs.Contracts.{Shape, IsTable, maxEntry}
 use Rattle.first_rounding.specs.First.{firstRounding}
 use Rattle.is_rounding.specs.Rounding.{twoWays, isRounding}
 use Rattle.first_rounding.specs.Contracts.{roundedDown, IsGrid}

@@ -11,11 +11,11 @@ use Rattle.base.specs.Lists.{all}
 use Rattle.refusals.specs.declared.Refusal.{Refusal}
 use Rattle.refusals.specs.declared.Refusal.the-variants.{LargeCell}
 use Rattle.refusals.specs.Due.{due, refusedOr}
-use Rattle.refusals.specs.Either.{lowerOf}
+use Rattle.refusals.specs.Contracts.{lowerOf}
 use Rattle.refusals.proofs.Dues.{due-first}
 use Rattle.refusals.proofs.Eithers.{Alike, no-rows, row, lowerDue, either-due}
-use Rattle.table.specs.Contracts.{IsTable}
-use Rattle.table.specs.Check.{tableTests, tableRefusal, BelowZero, checkOf}
+use Rattle.table.specs.Contracts.{IsTable, checkOf}
+use Rattle.table.specs.Check.{tableTests, tableRefusal, BelowZero}
 use Rattle.table.specs.declared.Table.{Table}
 use Rattle.table.specs.declared.Checked.{Checked}
 use Rattle.table.specs.declared.Checked.the-variants as checked

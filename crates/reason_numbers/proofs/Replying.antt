@@ -23,7 +23,8 @@ use Rattle.table.specs.Whole.{down}
 use Rattle.planning.specs.Rounds.{Round}
 use Rattle.reasons.specs.Reason.{expectedIn, countIn, setBy, allWhole, reasonOf}
 use Rattle.reasons.specs.Call.{roundAt, reasonTests, reasonRefusal, reasonAnswer}
-use Rattle.reason_numbers.specs.Numbers.{entryNumbers, reasonNumbers, replyNumber, roomTests, roomRefusal, replyRefusal}
+use Rattle.reason_numbers.specs.Numbers.{entryNumbers, reasonNumbers, replyNumber, roomTests, replyRefusal}
+use Rattle.reason_numbers.specs.Contracts.{roomRefusal}
 use Rattle.reasons.proofs.Telling.{told}
 
 -- the numbers of a known entry

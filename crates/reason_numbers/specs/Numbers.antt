@@ -38,9 +38,6 @@ replyNumber (Refused x) = numberOf x
 abbrev pub roomTests : ℕ → List Test
 roomTests room = refuse Buffer (ltb room 4) ∷ []
 
-unfoldable pub roomRefusal : ℕ → Option Refusal
-roomRefusal room = due (roomTests room)
-
 -- the refusals of writing the numbers into a buffer of `room`: those of asking, and then 7
 abbrev pub replyTests : ℕ → ℕ → ℕ → List ℕ → ℕ → ℕ → List Test
 replyTests r c d g k room = reasonTests r c d g k ++ roomTests room

@@ -8,8 +8,8 @@ use Rattle.refusals.proofs.Dues.{due-first}
 use Rattle.table.specs.declared.Table.{Table}
 use Rattle.table.specs.declared.Checked.{Checked}
 use Rattle.table.specs.declared.Checked.the-variants as checked
-use Rattle.table.specs.Contracts.{IsTable}
-use Rattle.table.specs.Check.{tableTests, tableRefusal, checkOf}
+use Rattle.table.specs.Contracts.{IsTable, checkOf}
+use Rattle.table.specs.Check.{tableTests, tableRefusal}
 use Rattle.table.proofs.Tables.{taken, not-taken}
 use Rattle.reasons.specs.declared.Reply.{Reply}
 use Rattle.reasons.specs.declared.Reply.the-variants.{Refused}

@@ -5,9 +5,9 @@ use mathlib.Core.List.{List}
 use Prim.Native.Nat.{ℕ, _+_, _/_, _%_, _<_, _≤_}
 use lib.ListN.{getD}
 use lib.Dec.{eqb, ltb}
-use Rattle.table.specs.Table.{maxDenominator, maxEntry}
+use Rattle.table.specs.Table.{maxDenominator}
 use Rattle.table.specs.Whole.{down}
-use Rattle.table.specs.Contracts.{Shape}
+use Rattle.table.specs.Contracts.{Shape, maxEntry}
 use Rattle.grid.specs.Contracts.{gridOf}
 use Rattle.reasons.specs.declared.Entry.{Entry}
 use Rattle.reasons.specs.declared.Entry.the-variants.{Cell, RowTotal, ColumnTotal, GrandTotal}

@@ -13,7 +13,8 @@ use Rattle.base.proofs.Lists.{and-left, and-right}
 use Rattle.refusals.specs.declared.Refusal.{Refusal}
 use Rattle.refusals.specs.Numbers.{numberOf}
 use Rattle.refusals.specs.Due.{Test, refuse, due}
-use Rattle.refusals.specs.Either.{either, lowerOf}
+use Rattle.refusals.specs.Either.{either}
+use Rattle.refusals.specs.Contracts.{lowerOf}
 use Rattle.refusals.proofs.Dues.{due-here, due-next}
 
 -- x has a lower number than each row of a list

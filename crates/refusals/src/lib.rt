@@ -8,7 +8,7 @@ ghost use Rattle.refusals.specs.Numbers.{numberOf};
 ghost use Rattle.refusals.specs.Places.{order, orderOnPlan, placeIn};
 ghost use Rattle.refusals.specs.Answer.{answerNumber};
 ghost use Rattle.refusals.specs.Due.{Test, due, noneApplies, FirstDue};
-ghost use Rattle.refusals.specs.Either.{lowerOf};
+ghost use Rattle.refusals.specs.Contracts.{lowerOf};
 
 // Why a call refuses its input, in the order of the refusals' numbers.
 pub enum Refusal {

@@ -8,10 +8,9 @@ use native.Mathlib.Omega.{arith}
 use lib.ListN.{length}
 use Rattle.base.specs.Lists.{tabulate}
 use Rattle.grid.specs.Contracts.{gridOf, gridCell, Ready}
-use Rattle.table.specs.Contracts.{Shape, IsTable}
+use Rattle.table.specs.Contracts.{Shape, IsTable, checkOf}
 use Rattle.base.specs.Contracts.{Filled}
 use Rattle.base.specs.Buffers.{written}
-use Rattle.table.specs.Check.{checkOf}
 use Rattle.table.specs.declared.Table.{Table}
 use Rattle.refusals.specs.declared.Refusal.{Refusal}
 use Rattle.refusals.specs.declared.Refusal.the-variants.{Buffer}

@@ -15,10 +15,10 @@ use borrow.Author.Tests.{lt-leb, le-leb, leb-true, eqb-true, not-true, not-false
 use Rattle.refusals.specs.declared.Refusal.{Refusal}
 use Rattle.refusals.specs.Due.{Test, refuse, due}
 use Rattle.refusals.proofs.Dues.{not-here, not-later, due-first, due-second, first-none}
-use Rattle.table.specs.Check.{upTo, cellsWithin, sizeWithin, denominatorWithin, sizeTests, tableRefusal, BelowZero, answered, sizesOf, checkOfCells, checkOf}
+use Rattle.table.specs.Check.{upTo, cellsWithin, sizeWithin, denominatorWithin, sizeTests, tableRefusal, BelowZero}
 use Rattle.refusals.specs.declared.Refusal.the-variants.{Size, Denominator, CellCount, LargeCell}
 use Rattle.table.specs.declared.Table.{Table}
-use Rattle.table.specs.Contracts.{IsTable}
+use Rattle.table.specs.Contracts.{IsTable, answered, sizesOf, checkOfCells, checkOf}
 use Rattle.table.specs.declared.Checked.{Checked}
 use Rattle.table.specs.declared.Checked.the-variants.{Accepted, Refused}
 use Rattle.table.proofs.Totals.{small-product}

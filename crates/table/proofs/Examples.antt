@@ -5,7 +5,7 @@ use Rattle.base.specs.Lists.{tabulate, sum, all}
 use Rattle.refusals.specs.Due.{due}
 use Rattle.table.specs.Table.{entryPlaces, total, entries}
 use Rattle.table.specs.Whole.{whole, gap, roundsTo}
-use Rattle.table.specs.Check.{checkOfCells, checkOf}
+use Rattle.table.specs.Contracts.{checkOfCells, checkOf}
 use Rattle.table.specs.Examples.{cases, checked, rounded, roundedOf, full, fullEntries}
 
 pub checks-hold : map checked cases ≡ map (λ x. x .number) cases

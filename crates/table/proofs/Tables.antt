@@ -11,8 +11,8 @@ use Rattle.refusals.specs.declared.Refusal.{Refusal}
 use Rattle.refusals.specs.declared.Refusal.the-variants.{Buffer}
 use Rattle.refusals.specs.Due.{Test, refuse, due}
 use Rattle.refusals.proofs.Dues.{due-first, due-second}
-use Rattle.table.specs.Check.{cellsWithin, tableTests, tableRefusal, checkOf}
-use Rattle.table.specs.Contracts.{IsTable}
+use Rattle.table.specs.Check.{cellsWithin, tableTests, tableRefusal}
+use Rattle.table.specs.Contracts.{IsTable, checkOf}
 use Rattle.table.specs.declared.Table.{Table}
 use Rattle.table.specs.declared.Checked.{Checked}
 use Rattle.table.specs.declared.Checked.the-variants as checked

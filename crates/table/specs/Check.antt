@@ -9,10 +9,7 @@ use lib.Dec.{leb, eqb}
 use Rattle.base.specs.Lists.{all}
 use Rattle.refusals.specs.declared.Refusal.{Refusal}
 use Rattle.refusals.specs.declared.Refusal.the-variants.{Size, Denominator, CellCount, LargeCell}
-use Rattle.refusals.specs.Numbers.{numberOf}
-use Rattle.refusals.specs.Due.{Test, refuse, due, refusedOr}
-use Rattle.table.specs.declared.Checked.{Checked}
-use Rattle.table.specs.declared.Checked.the-variants.{Accepted, Refused}
+use Rattle.refusals.specs.Due.{Test, refuse, due}
 use Rattle.table.specs.Table.{maxRows, maxColumns, maxDenominator, maxExpected}
 
 -- from 1 to a bound
@@ -61,23 +58,3 @@ pub record BelowZero (r c d : ℕ) (g : List ℕ) : Type 0 where
   pub cell : ℕ
   pub there : Member cell g
   pub below : 2147483648 ≤ cell
-
--- what a check answers, of what is due: the sizes where nothing is, else the refusal
-abbrev pub answered : ℕ → ℕ → ℕ → Option Refusal → Checked
-answered r c d x = refusedOr Refused (Accepted (record { rows = r; columns = c; denominator = d })) x
-
--- the sizes are accepted if none of 1 to 3 applies; n cells, of which it is told whether they are within their bounds, if none of 1 to 4 does
-unfoldable pub sizesOf : ℕ → ℕ → ℕ → ℕ → Checked
-sizesOf r c d n = answered r c d (due (sizeTests r c d n))
-
-unfoldable pub checkOfCells : ℕ → ℕ → ℕ → ℕ → Bool → Checked
-checkOfCells r c d n within = answered r c d (due (cellTests r c d n within))
-
--- and so a table
-unfoldable pub checkOf : ℕ → ℕ → ℕ → List ℕ → Checked
-checkOf r c d g = checkOfCells r c d (length g) (cellsWithin d g)
-
--- the number that each answer of the check stands for: 0 for an accepted table, else the refusal's
-abbrev pub checkedNumber : Checked → ℕ
-checkedNumber (Accepted t) = 0
-checkedNumber (Refused x) = numberOf x

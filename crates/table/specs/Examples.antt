@@ -5,7 +5,7 @@ use mathlib.Core.List.{List, [], _∷_, _++_, map}
 use Prim.Native.Nat.{ℕ}
 use lib.ListN.{replicate}
 use Rattle.table.specs.Whole.{down, up, roundsTo}
-use Rattle.table.specs.Check.{checkOf, checkedNumber}
+use Rattle.table.specs.Contracts.{checkOf, checkedNumber}
 
 -- a table and the number that its check gives, 0 for an accepted one
 pub record Case : Type 0 where

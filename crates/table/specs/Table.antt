@@ -28,10 +28,6 @@ maxCells = 144
 abbrev pub maxEntries : ℕ
 maxEntries = 169
 
--- the largest grand total: 144 cells of 1000 · 65,535
-abbrev pub maxEntry : ℕ
-maxEntry = 9437040000
-
 -- The cells of a table are listed row by row; the place of a cell is its index in that list.
 -- The places from `start` on, `step` apart: every entry is a sum over such places.
 abbrev pub places : ℕ → ℕ → ℕ → List ℕ

@@ -2,7 +2,8 @@
 ghost use mathlib.Core.Path.{_≡_};
 ghost use Prim.Native.Nat.{_≤_};
 ghost use lib.Dec.{eqb};
-ghost use Rattle.table.specs.Check.{upTo, sizeWithin, denominatorWithin, sizesOf, checkOf, cellsWithin};
+ghost use Rattle.table.specs.Check.{upTo, sizeWithin, denominatorWithin, cellsWithin};
+ghost use Rattle.table.specs.Contracts.{sizesOf, checkOf};
 use crate::Checked;
 use crate::Refusal;
 use crate::Table;

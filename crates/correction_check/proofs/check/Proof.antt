@@ -1,4 +1,4 @@
-use Rattle.correction_check.specs.Check.{checkOf}
+use Rattle.correction_check.specs.Contracts.{checkOf}
 use Rattle.table.proofs.Checks.{bad-sizes, denominator-small, bad-cell, good-cells}
 use borrow.Author.Needs.{needs}
 use Rattle.correction_check.proofs.check.Statement.{statement}

@@ -1,4 +1,4 @@
-use Rattle.table.specs.Check.{checkOf}
+use Rattle.table.specs.Contracts.{checkOf}
 use Rattle.table.proofs.Checks.{bad-sizes, denominator-small, bad-cell, good-cells}
 use borrow.Author.Needs.{needs}
 use Rattle.table.proofs.check.check.Statement.{statement}
