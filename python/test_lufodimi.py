@@ -451,50 +451,80 @@ class Tests(unittest.TestCase):
         self.assertRaises(TypeError, lufodimi.Plan, None)
         self.assertRaises(TypeError, campaign, 23)
 
-    def month(self, folder):
-        """What python/month.py ends with, and prints, where it keeps its files in a folder."""
+    def month(self, *words):
+        """What python/month.py ends with, and prints."""
         example = pathlib.Path(lufodimi.__file__).with_name("month.py")
-        words = [sys.executable, "-B", str(example), str(folder)]
+        words = [sys.executable, "-B", str(example), *map(str, words)]
         ended = subprocess.run(words, stdout=subprocess.PIPE, stderr=subprocess.PIPE, universal_newlines=True)
         return ended.returncode, ended.stdout.splitlines(), ended.stderr
+
+    def counts_of(self, lines):
+        self.assertEqual(lines[0].split(), ["open", "tablets", "ampoules", "insulin", "infusions"])
+        self.assertEqual([line.split()[0] for line in lines[1:4]], ["front", "middle", "cold"])
+        return [int(word) for line in lines[1:4] for word in line.split()[1:]]
 
     def test_month_example(self):
         with tempfile.TemporaryDirectory() as room:
             folder, drawn, numbers = pathlib.Path(room, "robot"), [0] * 12, set()
+            status, lines, errors = self.month("begin", folder)
+            self.assertEqual((status, errors, lines[1].split()), (0, "", ["front", "4.5", "2.3", "0", "1.2"]))
+            self.assertTrue(lines[4].startswith("together 24 a draw; a round has 10 draws; "), lines[4])
             for month in range(1, 11):
-                status, lines, errors = self.month(folder)
+                status, lines, errors = self.month("again" if month > 1 else "draw", folder)
                 self.assertEqual((status, errors, len(lines)), (0, "", 5))
-                self.assertEqual(lines[0].split(), ["open", "tablets", "ampoules", "insulin", "infusions"])
-                self.assertEqual([line.split()[0] for line in lines[1:4]], ["front", "middle", "cold"])
-                counts = [int(word) for line in lines[1:4] for word in line.split()[1:]]
+                counts = self.counts_of(lines)
                 drawn = [sum(pair) for pair in zip(drawn, counts)]
                 last = (folder / "draws").read_text().splitlines()[-1]
                 self.assertIn(": round 1, number ", last)
                 ends = "rounds completed 0, left in this round %d of 10" % (10 - month) if month < 10 else "rounds completed 1, left in this round 10 of 10"
                 self.assertEqual(lines[4], f"{last}; {ends}")
-                numbers.add(int(last.split()[-1]))
+                number = int(last.split()[-1])
+                numbers.add(number)
                 plan = lufodimi.Plan((folder / "plan").read_bytes())
-                self.assertEqual(plan.draw(int(last.split()[-1])), counts)
+                self.assertEqual(plan.draw(number), counts)
+                self.assertEqual(self.counts_of(self.month("show", folder, number)[1]), counts)
                 self.assertEqual(lufodimi.Campaign(plan, (folder / "record").read_bytes()).tally, drawn)
             self.assertEqual((drawn, numbers), (STANDING, set(range(10))))
-            self.assertEqual(sorted(file.name for file in folder.iterdir()), ["draws", "plan", "record"])
+            self.assertEqual(sorted(file.name for file in folder.iterdir()), ["draws", "names", "plan", "record"])
 
-    def test_month_example_without_what_it_kept(self):
+    def test_month_example_draws_nothing(self):
         with tempfile.TemporaryDirectory() as room:
             folder = pathlib.Path(room, "robot")
-            self.month(folder)
-            for name, stored in (("record", None), ("record", b"LUFR"), ("plan", lufodimi.plan(2, 2, 10, CELLS)), ("plan", b"")):
+            self.assertIn("each month: draws", self.month("--help")[1][3])
+            for words in ((), ("draw",), ("draw", folder, "again"), (folder,)):
+                self.assertIn("each month: draws", self.month(*words)[2])
+            self.assertIn("there is no folder", self.month("draw", folder)[2])
+            self.assertEqual(list(pathlib.Path(room).iterdir()), [])
+            self.month("begin", folder)
+            self.assertIn("exists", self.month("begin", folder)[2])
+            self.assertEqual(self.month("draw", folder)[0], 0)
+            record = (folder / "record").read_bytes()
+            self.assertIn("this month is drawn", self.month("draw", folder)[2])
+            other = lufodimi.plan(2, 2, 10, CELLS)
+            for name, stored in (("record", b"LUFR"), ("record", record[:-1] + b"\1"), ("plan", other), ("plan", b""), ("names", b"cold, front\n")):
                 before = (folder / name).read_bytes()
-                if stored is None:
-                    (folder / name).unlink()
-                else:
-                    (folder / name).write_bytes(stored)
-                status, lines, errors = self.month(folder)
+                (folder / name).write_bytes(stored)
+                status, lines, errors = self.month("again", folder)
                 self.assertEqual((status, lines), (1, []))
-                self.assertTrue(errors.startswith("month.py: nothing is drawn: "), errors)
+                self.assertTrue(errors.startswith("nothing is done: "), errors)
                 (folder / name).write_bytes(before)
             self.assertEqual(len((folder / "draws").read_text().splitlines()), 1)
-            self.assertEqual(self.month(folder)[0], 0)
+
+    def test_month_example_restores_the_record(self):
+        with tempfile.TemporaryDirectory() as room:
+            folder = pathlib.Path(room, "robot")
+            self.month("begin", folder)
+            for _ in range(12):
+                self.month("again", folder)
+            record = (folder / "record").read_bytes()
+            (folder / "record").unlink()
+            self.assertIn("nothing is done: ", self.month("again", folder)[2])
+            self.assertEqual(self.month("restore", folder)[1], ["rounds completed 1, left in this round 8 of 10"])
+            self.assertEqual((folder / "record").read_bytes(), record)
+            lines = (folder / "draws").read_text().splitlines(keepends=True)
+            (folder / "draws").write_text("".join(lines[1:]))
+            self.assertIn("the list of draws is not whole before: ", self.month("restore", folder)[2])
+            self.assertEqual((folder / "record").read_bytes(), record)
 
     def test_missing_library(self):
         folder = pathlib.Path(lufodimi.__file__).parent
