@@ -50,7 +50,7 @@ pub record EachRefuses : Type 0 where
   pub reason : (r c d : ℕ) (g : List ℕ) (k room : ℕ) → Refuses (placeIn order) (replyTests r c d g k room) (replyRefusal r c d g k room)
   pub array : (b : List ℕ) (k one room : ℕ) → Refuses (placeIn orderOnPlan) (arrayTests b k one room) (arrayRefusal b k one room)
 
--- and a cell below zero, where none of 1 to 3 applies, is 4 in every call that takes a table and is not "rounding of corrections"
+-- and a cell below zero, where none of 1 to 3 applies, is 4 in every call that takes a table and no correction sheet
 pub record BelowZeroRefused : Type 0 where
   pub rounding : (r c d : ℕ) (g : List ℕ) (room : ℕ) → BelowZero r c d g → roundRefusal r c d g room ≡ some LargeCell
   pub plan : (r c d : ℕ) (g : List ℕ) (room : ℕ) → BelowZero r c d g → planRefusal r c d g room ≡ some LargeCell

@@ -30,13 +30,13 @@ numbersDrawn p s =
 abbrev pub drawsBefore : Plan → CampaignRecord → List Asked
 drawsBefore p s = map (λ d. ask d (replicate (cellCount p) 0)) (numbersDrawn p s)
 
--- a record that is long enough and fits, whose bits are in bytes
+-- a record that is long enough and fits, whose bits are in bytes, as those of every lent buffer are
 pub record Resumable (p : Plan) (s : CampaignRecord) : Type 0 where
   pub room : roomFor p s ≡ true
   pub fits : fits p s ≡ true
   pub bytes : (i : ℕ) → getD (s .bits) i 0 < 256
 
--- such a record s, and the run of a start and the draws before: `run` as they were made after a start that left `start`
+-- such a record s; `start`, what a start on its buffers leaves; and `run`, the draws before, made from there
 pub record Resumed (b : List ℕ) (s start : CampaignRecord) (run : List Made) : Type 0 where
   -- each was accepted, and they leave the record, all of it
   pub each-done : (t : Made) → Member t run → t .answer ≡ Done

@@ -1,7 +1,7 @@
-// What the specification demands, in its own words; `claims` proves it of the definitions that the code is equated with. Literal cases of each definition
-// stand in `claims` of the crate that holds it.
+// What the specification asks for, as statements; `claims` proves them of the definitions that the code is equated with. Literal cases of each definition stand
+// in `claims` of the crate that holds it.
 //
-// Demand 1, that no call runs without end, touches memory that it was not lent, or goes unrefused: being proved means the first two; `refusals` says which
+// Demand 1, that every call ends, touches only memory that it was lent, and refuses what it has to: being proved means the first two; `refusals` says which
 // refusal each call returns, and `below_zero` that a cell below zero is one; that a refusal leaves every lent buffer as it was is in each call's contract (`after`).
 // Demand 2, that every plan is the specification's: `plans`; that the call writes just this plan is the contract of `plan::plan`. A stored plan opens just if it meets the stated conditions: `opens`.
 // Demand 3, on campaigns: `every_run` after a start and `resumes` from any record that fits, for any plan that opens; and `serves`, for the plan of every
@@ -49,7 +49,7 @@ pub fn claims()
     ensures plans { λ _. ⌜ ((r c d : ℕ) (g : List ℕ) → tableRefusal r c d g ≡ none → Promises r c d g) ⌝ }
     // which entry set the weight of each of its arrays
     ensures reasons { λ _. ⌜ ((r c d : ℕ) (g : List ℕ) (k : ℕ) → reasonRefusal r c d g k ≡ none → Explained r c d g k) ⌝ }
-    // what is known of bytes that open, and what is enough for it
+    // bytes open just if they meet the conditions
     ensures opens { λ _. ⌜ ((b : List ℕ) → (Opens b → Conditions b) × (Conditions b → Opens b)) ⌝ }
     // every list of draws after a start, on any plan that opens
     ensures every_run { λ _. ⌜ Claim ⌝ }

@@ -52,7 +52,7 @@ tableTests r c d g = cellTests r c d (length g) (cellsWithin d g)
 unfoldable pub tableRefusal : ℕ → ℕ → ℕ → List ℕ → Option Refusal
 tableRefusal r c d g = due (tableTests r c d g)
 
--- none of 1 to 3 applies, and a cell is below zero: handed over as its 32 bits it is 2³¹ or more
+-- none of 1 to 3 applies, and a cell is 2³¹ or more: so is each cell below zero that is handed over as its 32 bits
 pub record BelowZero (r c d : ℕ) (g : List ℕ) : Type 0 where
   pub sizes : due (sizeTests r c d (length g)) ≡ none
   pub cell : ℕ
