@@ -109,7 +109,8 @@ def show(title, numbers):
 
 def main(words):
     if words in (["-h"], ["--help"]):
-        return print(__doc__.strip())
+        print(__doc__.strip())
+        return
     commands = {"begin": (begin, 2), "draw": (draw, 2), "again": (again, 2), "show": (show_number, 3), "restore": (restore, 2)}
     command, length = commands.get(words[0] if words else "", (None, 0))
     if command is None or len(words) != length:
@@ -120,7 +121,6 @@ def main(words):
         sys.exit(f"nothing is done: refusal {error.number}: {error}")
     except (OSError, ValueError) as error:
         sys.exit(f"nothing is done: {error}")
-    return None
 
 
 if __name__ == "__main__":
