@@ -8,13 +8,13 @@ use lib.Arith.{digits-lt, digits-div, digits-mod}
 use Rattle.cell_order.specs.Order.{nthRow, nthColumn, rank}
 
 -- the functions compute these
-pub row-is : (n : ℕ) → n / 12 ≡ nthRow 12 12 n
+pub row-is : (r c n : ℕ) → n / c ≡ nthRow r c n
 unfolding nthRow
-row-is n = refl
+row-is r c n = refl
 
-pub column-is : (n : ℕ) → n % 12 ≡ nthColumn 12 12 n
+pub column-is : (r c n : ℕ) → n % c ≡ nthColumn r c n
 unfolding nthColumn
-column-is n = refl
+column-is r c n = refl
 
 -- the n-th cell
 module _ {r c : ℕ} (hr : 0 < r) (hc : 0 < c) (n : ℕ) (h : n < r * c) where

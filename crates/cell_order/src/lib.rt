@@ -1,20 +1,23 @@
-// The order in which cells are compared. A grid of 12 by 12 cells holds every table, and its cells are gone through in this order.
+// The order in which cells are compared, of tables of any size. A grid of 12 by 12 cells holds every table, and its cells are gone through in this order.
 ghost use mathlib.Core.Path.{_≡_};
 ghost use mathlib.Core.List.{[], _∷_, map};
 ghost use Rattle.cell_order.specs.Order.{nthRow, nthColumn, rank};
+ghost use Rattle.cell_order.specs.Contracts.{Some};
 
-// The row of the n-th cell of a 12 by 12 grid.
-pub fn nth_row(n: usize) -> usize
-    ensures { λ r. ⌜ r ≡ nthRow 12 12 n ⌝ }
+// The row of the n-th cell of a table.
+pub fn nth_row(rows: usize, columns: usize, n: usize) -> usize
+    requires { ⌜ Some rows columns ⌝ }
+    ensures { λ r. ⌜ r ≡ nthRow rows columns n ⌝ }
 {
-    n / 12
+    n / columns
 }
 
-// The column of the n-th cell of a 12 by 12 grid.
-pub fn nth_column(n: usize) -> usize
-    ensures { λ r. ⌜ r ≡ nthColumn 12 12 n ⌝ }
+// The column of the n-th cell of a table.
+pub fn nth_column(rows: usize, columns: usize, n: usize) -> usize
+    requires { ⌜ Some rows columns ⌝ }
+    ensures { λ r. ⌜ r ≡ nthColumn rows columns n ⌝ }
 {
-    n % 12
+    n % columns
 }
 
 // The order of two rows and three columns, by the row and the column of its cells, and by the rank of the cells of each row.

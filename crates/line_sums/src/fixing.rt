@@ -46,6 +46,6 @@ pub fn fix_all(up: &mut [u32; 13], down: &mut [u32; 13], one: &mut [u32; 13])
     ensures { λ _. ⌜ CellsFixed (now (up .entry)) (now (down .entry)) (now (one .entry)) (now (up .exit)) (now (down .exit)) (now (one .exit)) 144 ⌝ }
 {
     for n in 0..144 {
-        fix(up, down, one, nth_row(n), nth_column(n));
+        fix(up, down, one, nth_row(12, 12, n), nth_column(12, 12, n));
     }
 }
