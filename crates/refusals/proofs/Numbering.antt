@@ -4,7 +4,7 @@ use Prim.Native.Nat.{_<_}
 use native.Mathlib.Omega.{arith}
 use lib.ListN.{getD}
 use Rattle.refusals.specs.declared.Refusal.{Refusal}
-use Rattle.refusals.specs.declared.Refusal.the-variants.{Size, Denominator, CellCount, LargeCell, Layout, Content, Buffer, Number, Record, Taken, Multiple, PooledCell, Rounds, Array}
+use Rattle.refusals.specs.declared.Refusal.the-variants.{Size, Denominator, CellCount, LargeCell, Layout, Content, Buffer, Number, Record, Taken, Multiple, PooledCell, Rounds, Array, WalkSize, NotRounding}
 use Rattle.refusals.specs.Numbers.{numberOf}
 use Rattle.refusals.specs.Places.{order, orderOnPlan, placeIn}
 
@@ -23,6 +23,8 @@ number-small Multiple = omega arith
 number-small PooledCell = omega arith
 number-small Rounds = omega arith
 number-small Array = omega arith
+number-small WalkSize = omega arith
+number-small NotRounding = omega arith
 
 pub at-place : (x : Refusal) → (getD order (placeIn order x) 0 ≡ numberOf x) × (getD orderOnPlan (placeIn orderOnPlan x) 0 ≡ numberOf x)
 unfolding placeIn
@@ -40,3 +42,5 @@ at-place Multiple = (refl, refl)
 at-place PooledCell = (refl, refl)
 at-place Rounds = (refl, refl)
 at-place Array = (refl, refl)
+at-place WalkSize = (refl, refl)
+at-place NotRounding = (refl, refl)

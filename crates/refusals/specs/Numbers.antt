@@ -1,7 +1,7 @@
 -- Refusals and their numbers (specification, "Refusals"). Assumes nothing.
 use Prim.Native.Nat.{ℕ}
 use Rattle.refusals.specs.declared.Refusal.{Refusal}
-use Rattle.refusals.specs.declared.Refusal.the-variants.{Size, Denominator, CellCount, LargeCell, Layout, Content, Buffer, Number, Record, Taken, Multiple, PooledCell, Rounds, Array}
+use Rattle.refusals.specs.declared.Refusal.the-variants.{Size, Denominator, CellCount, LargeCell, Layout, Content, Buffer, Number, Record, Taken, Multiple, PooledCell, Rounds, Array, WalkSize, NotRounding}
 
 -- the number of each refusal
 abbrev pub numberOf : Refusal → ℕ
@@ -19,3 +19,5 @@ numberOf Multiple = 11
 numberOf PooledCell = 12
 numberOf Rounds = 13
 numberOf Array = 14
+numberOf WalkSize = 15
+numberOf NotRounding = 16

@@ -40,6 +40,10 @@ pub enum Refusal {
     Rounds,
     // the plan has no array of that number
     Array,
+    // rows or columns above 4 in a walk
+    WalkSize,
+    // the array handed in is no controlled rounding of the table
+    NotRounding,
 }
 
 // What a call answers that returns nothing but its success.
@@ -67,6 +71,8 @@ pub fn number(r: Refusal) -> u32
         Refusal::PooledCell => 12,
         Refusal::Rounds => 13,
         Refusal::Array => 14,
+        Refusal::WalkSize => 15,
+        Refusal::NotRounding => 16,
     }
 }
 
