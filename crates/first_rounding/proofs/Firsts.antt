@@ -81,7 +81,7 @@ answer test (c ∷ cs) o =
     (answer (λ r. test (c .low ∷ r)) cs (o .1)) (answer (λ r. test (c .high ∷ r)) cs (o .1))
 
 -- of two lists within the same choices one comes first, if they differ
-one-before : (cs : List (Choice ℕ)) (k n : List ℕ) → Within cs k → Within cs n → (k ≡ n) ⊎ (Smaller _<_ k n ⊎ Smaller _<_ n k)
+pub one-before : (cs : List (Choice ℕ)) (k n : List ℕ) → Within cs k → Within cs n → (k ≡ n) ⊎ (Smaller _<_ k n ⊎ Smaller _<_ n k)
 one-before [] [] [] v w = inl refl
 one-before [] [] (y ∷ n) v w = absurd w
 one-before [] (x ∷ k) n v w = absurd v

@@ -46,12 +46,12 @@ module _ {r c : ℕ} {g : List ℕ} (s : Shape r c g) (w : ℕ) (n : List ℕ) w
   grid-rounding e h = and-both (eq-eqb _ _ e) (grid-entries s (λ x. roundsTo w (total g x) (total n x)) h)
 
   -- a cell's count is the cell over w rounded down or up
-  at-cell : isRounding (twoWays r c) w g n ≡ true → (p q : ℕ) → p < r → q < c → roundsTo w (getD g (p * c + q) 0) (getD n (p * c + q) 0) ≡ true
+  pub at-cell : isRounding (twoWays r c) w g n ≡ true → (p q : ℕ) → p < r → q < c → roundsTo w (getD g (p * c + q) 0) (getD n (p * c + q) 0) ≡ true
   at-cell h p q hp hq =
       let at = rounding-grid h p q (omega (arith, s .rows)) (omega (arith, s .columns)) in
       rw (cell-at s p q hp hq, cell-at (shape-of s n (rounding-length h)) p q hp hq) at at
 
-  in-order : isRounding (twoWays r c) w g n ≡ true → (i : ℕ) → i < r * c → roundsTo w (getD (inOrder 0 r c g) i 0) (getD (inOrder 0 r c n) i 0) ≡ true
+  pub in-order : isRounding (twoWays r c) w g n ≡ true → (i : ℕ) → i < r * c → roundsTo w (getD (inOrder 0 r c g) i 0) (getD (inOrder 0 r c n) i 0) ≡ true
   in-order h i l = rw (in-order-at 0 r c g i l, in-order-at 0 r c n i l)
       (at-cell h (nthRow r c i) (nthColumn r c i) (nth-row (s .some-rows) (s .some-columns) i l) (nth-column (s .some-rows) (s .some-columns) i l))
 
@@ -68,17 +68,17 @@ within-at w (x ∷ g) (y ∷ n) e h = (which (ℕ-discrete y (down w x)), within
     which (yes d) = inl d
     which (no d) = inr (omega (arith, rounds-low w x y at, rounds-high w x y at, gap-le w x))
 
-ordered : (w : ℕ) (g : List ℕ) → Ordered (map (choice w) g)
+pub ordered : (w : ℕ) (g : List ℕ) → Ordered (map (choice w) g)
 ordered w [] = tt
 ordered w (x ∷ g) = (omega arith, ordered w g)
 
 -- the search gives the array that is first of all controlled roundings
 module _ {r c : ℕ} {g : List ℕ} (s : Shape r c g) (w : ℕ) where
-  made-of : (n : List ℕ) → isRounding (twoWays r c) w g n ≡ true → Within (map (choice w) (inOrder 0 r c g)) (inOrder 0 r c n)
+  pub made-of : (n : List ℕ) → isRounding (twoWays r c) w g n ≡ true → Within (map (choice w) (inOrder 0 r c g)) (inOrder 0 r c n)
   made-of n h = within-at w (inOrder 0 r c g) (inOrder 0 r c n) (length-in-order 0 r c n ∙ sym (length-in-order 0 r c g))
       (λ i l. in-order s w n h i (omega (arith, length-in-order 0 r c g)))
 
-  made-length : (l : List ℕ) → Within (map (choice w) (inOrder 0 r c g)) l → length l ≡ r * c
+  pub made-length : (l : List ℕ) → Within (map (choice w) (inOrder 0 r c g)) l → length l ≡ r * c
   made-length l h = within-length (map (choice w) (inOrder 0 r c g)) l h ∙ length-map (inOrder 0 r c g) (choice w) ∙ length-in-order 0 r c g
 
   module _ (n : List ℕ) (f : IsFirst r c w g n) where
