@@ -1,0 +1,3 @@
+pub mod Call
+pub mod Contracts
+pub mod Examples
