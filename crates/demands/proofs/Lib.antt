@@ -10,4 +10,5 @@ pub mod Belongings
 pub mod Sentences
 pub mod Serving
 pub mod Pooled
+pub mod Walking
 pub mod Examples

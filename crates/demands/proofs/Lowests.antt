@@ -21,6 +21,8 @@ use Rattle.table.proofs.Checks.{below-zero}
 use Rattle.planning.specs.Rounds.{planOf}
 use Rattle.rounding.specs.Call.{roundRefusal}
 use Rattle.corrections.specs.Call as corrections
+use Rattle.walk.specs.Call.{firstRefusal, nextRefusal}
+use Rattle.walk.proofs.Calls.{first-below-zero, next-below-zero}
 use Rattle.plan.specs.Call.{planBytes, planRefusal}
 use Rattle.opening.specs.Open.{openRefusal, partRefusal}
 use Rattle.drawing.specs.Draw.{drawRefusal}
@@ -82,7 +84,7 @@ module _ (rank : Refusal → ℕ) where
 
 -- each call by the order that its statement names
 pub each-refuses : EachRefuses
-unfolding rising placeIn all zipWith roundRefusal corrections.roundRefusal planRefusal openRefusal partRefusal drawRefusal startRefusal campaignRefusal poolRefusal replyRefusal arrayRefusal
+unfolding rising placeIn all zipWith roundRefusal corrections.roundRefusal planRefusal openRefusal partRefusal drawRefusal startRefusal campaignRefusal poolRefusal replyRefusal arrayRefusal firstRefusal nextRefusal
 each-refuses = record {
   rounding = λ r c d g room. refuses _ _ refl;
   corrections = λ r c d g room. refuses _ _ refl;
@@ -92,6 +94,8 @@ each-refuses = record {
   draw = λ b d room. refuses _ _ refl;
   start = λ b s. refuses _ _ refl;
   campaign-draw = λ b d s room. refuses _ _ refl;
+  walk-first = λ r c d g room. refuses _ _ refl;
+  walk-next = λ r c d g n room. refuses _ _ refl;
   pool = λ r c d g e h numbers room. refuses _ _ refl;
   reason = λ r c d g k room. refuses _ _ refl;
   array = λ b k one room. refuses _ _ refl;
@@ -108,4 +112,6 @@ below-zero-refused = record {
       (due-first (tableTests r c d g) (refuse Array (not (upTo (length (planOf r c d g .arrays)) k)) ∷ []) LargeCell (below-zero r c d g z));
   pool = λ r c d g e h numbers room z.
       due-first (poolingTests r c d g e h) (refuse Buffer (ltb numbers 1 || ltb room (r * c)) ∷ []) LargeCell (either-below-zero r c d g e h z);
+  walk-first = λ r c d g room hr hc z. first-below-zero r c d g hr hc z room;
+  walk-next = λ r c d g n room hr hc z. next-below-zero r c d g hr hc z n room;
 }

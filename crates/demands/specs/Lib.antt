@@ -5,6 +5,7 @@ pub mod Claim
 pub mod Resumed
 pub mod Plans
 pub mod Pools
+pub mod Walks
 pub mod Numbers
 pub mod Examples
 pub mod Campaigns

@@ -13,6 +13,7 @@ use Rattle.refusals.specs.Due.{Test, refuse, noneApplies}
 use Rattle.table.specs.Check.{BelowZero}
 use Rattle.rounding.specs.Call.{roundTests, roundRefusal}
 use Rattle.corrections.specs.Call as corrections
+use Rattle.walk.specs.Call.{maxSide, firstTests, firstRefusal, nextTests, nextRefusal}
 use Rattle.plan.specs.Call.{planTests, planRefusal}
 use Rattle.opening.specs.Open.{openTests, openRefusal, partTests, partRefusal}
 use Rattle.drawing.specs.Draw.{drawTests, drawRefusal}
@@ -45,15 +46,19 @@ pub record EachRefuses : Type 0 where
   pub start : (b : List ℕ) (s : CampaignRecord) → Refuses numberOf (startTests b s) (startRefusal b s)
   -- the others have refusals that came later, so the lowest place in the order of all
   pub campaign-draw : (b : List ℕ) (d : ℕ) (s : CampaignRecord) (room : ℕ) → Refuses (placeIn order) (campaignTests b d s room) (campaignRefusal b d s room)
+  pub walk-first : (r c d : ℕ) (g : List ℕ) (room : ℕ) → Refuses (placeIn order) (firstTests r c d g room) (firstRefusal r c d g room)
+  pub walk-next : (r c d : ℕ) (g n : List ℕ) (room : ℕ) → Refuses (placeIn order) (nextTests r c d g n room) (nextRefusal r c d g n room)
   pub pool : (r c d : ℕ) (g : List ℕ) (e : ℕ) (h : List ℕ) (numbers room : ℕ)
       → Refuses (placeIn order) (poolTests r c d g e h numbers room) (poolRefusal r c d g e h numbers room)
   pub reason : (r c d : ℕ) (g : List ℕ) (k room : ℕ) → Refuses (placeIn order) (replyTests r c d g k room) (replyRefusal r c d g k room)
   pub array : (b : List ℕ) (k one room : ℕ) → Refuses (placeIn orderOnPlan) (arrayTests b k one room) (arrayRefusal b k one room)
 
--- and a cell below zero, where none of 1 to 3 applies, is 4 in every call that takes a table and no correction sheet
+-- and a cell below zero, where none of 1 to 3 applies, is 4 in every call that takes a table and no correction sheet; in a walk, where 15 does not apply either
 pub record BelowZeroRefused : Type 0 where
   pub rounding : (r c d : ℕ) (g : List ℕ) (room : ℕ) → BelowZero r c d g → roundRefusal r c d g room ≡ some LargeCell
   pub plan : (r c d : ℕ) (g : List ℕ) (room : ℕ) → BelowZero r c d g → planRefusal r c d g room ≡ some LargeCell
   pub reason : (r c d : ℕ) (g : List ℕ) (k room : ℕ) → BelowZero r c d g → replyRefusal r c d g k room ≡ some LargeCell
   pub pool : (r c d : ℕ) (g : List ℕ) (e : ℕ) (h : List ℕ) (numbers room : ℕ) → EitherBelowZero r c d g e h
       → poolRefusal r c d g e h numbers room ≡ some LargeCell
+  pub walk-first : (r c d : ℕ) (g : List ℕ) (room : ℕ) → r ≤ maxSide → c ≤ maxSide → BelowZero r c d g → firstRefusal r c d g room ≡ some LargeCell
+  pub walk-next : (r c d : ℕ) (g n : List ℕ) (room : ℕ) → r ≤ maxSide → c ≤ maxSide → BelowZero r c d g → nextRefusal r c d g n room ≡ some LargeCell

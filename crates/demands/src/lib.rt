@@ -6,8 +6,8 @@
 // Demand 2, that every plan is the specification's: `plans`; that the call writes just this plan is the contract of `plan::plan`. A stored plan opens just if it meets the stated conditions: `opens`.
 // Demand 3, on campaigns: `every_run` after a start and `resumes` from any record that fits, for any plan that opens; and `serves`, for the plan of every
 // accepted table.
-// What came later: pooling, `pools`; the reasons of weights, `reasons`; variances, in `variances::claims`; the rounding of corrections, in
-// `corrections::claims`, with its refusals here.
+// What came later: pooling, `pools`; the reasons of weights, `reasons`; the walk through a small table, `walks`; variances, in `variances::claims`; the rounding
+// of corrections, in `corrections::claims`, with its refusals here.
 ghost use mathlib.Core.Path.{_≡_};
 ghost use mathlib.Core.Bool.{true};
 ghost use mathlib.Core.List.{List, map};
@@ -29,12 +29,14 @@ ghost use Rattle.plan.specs.Promises.{Promises};
 ghost use Rattle.reasons.specs.Call.{reasonRefusal};
 ghost use Rattle.reasons.specs.Explained.{Explained};
 ghost use Rattle.pool.specs.Pool.{poolingRefusal, poolRefusal, Lent, pooledInto};
+ghost use Rattle.walk.specs.Call.{maxSide};
 ghost use Rattle.demands.specs.Refusals.{EachRefuses, BelowZeroRefused};
 ghost use Rattle.demands.specs.Opening.{Conditions};
 ghost use Rattle.demands.specs.Claim.{Claim};
 ghost use Rattle.demands.specs.Resumed.{Resumes};
 ghost use Rattle.demands.specs.Plans.{Served};
 ghost use Rattle.demands.specs.Pools.{ServedPool};
+ghost use Rattle.demands.specs.Walks.{Walked};
 ghost use Rattle.demands.specs.Numbers.{Belonging};
 ghost use Rattle.demands.specs.Examples.{ExamplesHold};
 ghost use Rattle.demands.specs.Campaigns.{runs, saidOf};
@@ -63,6 +65,8 @@ pub fn claims()
         → 1 ≤ length (old .denominator) → r * c ≤ length (old .cells)
         → Answers (poolRefusal r c d g e h (length (old .denominator)) (length (old .cells))) (pooledInto d g e h old) old a new
         → ServedPool r c d g e h a new) ⌝ }
+    // the list that the two calls of a walk make
+    ensures walks { λ _. ⌜ ((r c d : ℕ) (g : List ℕ) → tableRefusal r c d g ≡ none → r ≤ maxSide → c ≤ maxSide → Walked r c d g) ⌝ }
     // sentences of the specification that follow from its definitions: the number of entries, a whole entry's limit, the array of a draw number
     ensures entries { λ _. ⌜ ((r c : ℕ) → r ≤ maxRows → c ≤ maxColumns → length (entryPlaces r c) ≤ maxEntries) ⌝ }
     ensures whole_limit { λ _. ⌜ ((w e : ℕ) → whole w e ≡ true → limitOf w e (down w e) ≡ w) ⌝ }

@@ -8,6 +8,7 @@ use Rattle.demands.proofs.Campaigns.{claim}
 use Rattle.demands.proofs.Resuming.{resumes}
 use Rattle.demands.proofs.Serving.{served}
 use Rattle.demands.proofs.Pooled.{served-pool}
+use Rattle.demands.proofs.Walking.{walked}
 use Rattle.demands.proofs.Sentences.{few-entries, whole-limit}
 use Rattle.demands.proofs.Belongings.{belonging}
 use Rattle.demands.proofs.Examples.{examples-hold, runs-hold, slips-shut}
@@ -31,7 +32,7 @@ returns k = (
               resumes,
               (
                 served,
-                (served-pool, (few-entries, (whole-limit, (belonging, (examples-hold, (runs-hold, slips-shut)))))),
+                (served-pool, (walked, (few-entries, (whole-limit, (belonging, (examples-hold, (runs-hold, slips-shut))))))),
               ),
             ),
           ),
