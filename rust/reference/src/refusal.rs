@@ -29,6 +29,10 @@ pub enum Refusal {
     Rounds = 13,
     /// An array number that the plan does not have.
     ArrayNumber = 14,
+    /// Rows or columns above 4, of a table that is to be walked through.
+    WalkSize = 15,
+    /// An array that is no controlled rounding of the table, or has another length.
+    NotRounding = 16,
 }
 
 impl Refusal {

@@ -57,15 +57,23 @@ pub fn accept_sizes(
     denominator: u32,
     cells: usize,
 ) -> Result<(), Refusal> {
+    accept_rows_and_columns(rows, columns)?;
     let [rows, columns, denominator] = [rows, columns, denominator].map(u64::from);
-    if !Table::ROWS.contains(&rows) || !Table::COLUMNS.contains(&columns) {
-        Err(Refusal::Size)
-    } else if !Table::DENOMINATORS.contains(&denominator) {
+    if !Table::DENOMINATORS.contains(&denominator) {
         Err(Refusal::Denominator)
     } else if cells as u64 != rows * columns {
         Err(Refusal::CellCount)
     } else {
         Ok(())
+    }
+}
+
+/// Refusal 1, if it applies.
+pub fn accept_rows_and_columns(rows: u32, columns: u32) -> Result<(), Refusal> {
+    if Table::ROWS.contains(&u64::from(rows)) && Table::COLUMNS.contains(&u64::from(columns)) {
+        Ok(())
+    } else {
+        Err(Refusal::Size)
     }
 }
 

@@ -78,6 +78,16 @@ pub fn problem_2_1() -> GivenTable {
     GivenTable::by_rows(10, &[[8, 5, 7], [7, 8, 5], [5, 7, 8]])
 }
 
+/// The controlled roundings of Problem 2.1, those of Table 4.1 in the stated order.
+pub const PROBLEM_2_1_ARRAYS: [[u16; 9]; 6] = [
+    [0, 1, 1, 1, 0, 1, 1, 1, 0],
+    [0, 1, 1, 1, 1, 0, 1, 0, 1],
+    [1, 0, 1, 0, 1, 1, 1, 1, 0],
+    [1, 0, 1, 1, 1, 0, 0, 1, 1],
+    [1, 1, 0, 0, 1, 1, 1, 0, 1],
+    [1, 1, 0, 1, 0, 1, 0, 1, 1],
+];
+
 /// The solution to Problem 2.1 that most methods of Table 8.2 give. It opens.
 pub fn problem_2_1_common() -> Example {
     let arrays = [
@@ -99,6 +109,47 @@ pub fn problem_2_1_method_3() -> Example {
         (1, [1, 1, 0, 1, 0, 1, 0, 1, 1]),
     ];
     Example::new(problem_2_1(), &arrays)
+}
+
+/// Problem 2.2 of document 004, in tenths, as the solutions of its Table 8.3 add up. It
+/// has 30 controlled roundings.
+pub fn problem_2_2() -> GivenTable {
+    let rows = [[0, 6, 10, 4], [8, 4, 4, 4], [6, 2, 4, 8], [6, 8, 2, 4]];
+    GivenTable::by_rows(10, &rows)
+}
+
+/// The solution to Problem 2.2 that the methods of document 004 give. It opens.
+pub fn problem_2_2_new_methods() -> Example {
+    let arrays = [
+        (2, [0, 0, 1, 1, 0, 1, 0, 1, 1, 1, 0, 0, 1, 0, 1, 0]),
+        (2, [0, 0, 1, 1, 1, 1, 0, 0, 0, 0, 1, 1, 1, 1, 0, 0]),
+        (2, [0, 1, 1, 0, 1, 0, 0, 1, 0, 0, 1, 1, 1, 1, 0, 0]),
+        (4, [0, 1, 1, 0, 1, 0, 1, 0, 1, 0, 0, 1, 0, 1, 0, 1]),
+    ];
+    Example::new(problem_2_2(), &arrays)
+}
+
+/// The solution to Problem 2.2 by the method of Sitter and Skinner, of the same table. It
+/// opens.
+pub fn problem_2_2_sitter_skinner() -> Example {
+    let arrays = [
+        (4, [0, 0, 1, 1, 1, 1, 0, 0, 0, 0, 1, 1, 1, 1, 0, 0]),
+        (2, [0, 1, 1, 0, 1, 0, 1, 0, 1, 0, 0, 1, 0, 1, 0, 1]),
+        (2, [0, 1, 1, 0, 0, 0, 1, 1, 1, 1, 0, 0, 1, 0, 0, 1]),
+        (2, [0, 1, 1, 0, 1, 0, 0, 1, 1, 0, 0, 1, 0, 1, 1, 0]),
+    ];
+    Example::new(problem_2_2(), &arrays)
+}
+
+/// The solution to Problem 2.2 by Jessen's method, of the same table. It opens.
+pub fn problem_2_2_jessen() -> Example {
+    let arrays = [
+        (2, [0, 0, 1, 1, 1, 1, 0, 0, 0, 0, 1, 1, 1, 1, 0, 0]),
+        (4, [0, 1, 1, 0, 1, 0, 1, 0, 1, 0, 0, 1, 0, 1, 0, 1]),
+        (2, [0, 1, 1, 0, 1, 0, 0, 1, 0, 1, 0, 1, 1, 0, 1, 0]),
+        (2, [0, 0, 1, 1, 0, 1, 0, 1, 1, 0, 1, 0, 1, 1, 0, 0]),
+    ];
+    Example::new(problem_2_2(), &arrays)
 }
 
 /// Problem 2.4 of document 004, in thousandths.

@@ -1,9 +1,9 @@
 //! Roundings, plans and the reasons of weights against a search through all arrays.
 
-use crate::samples::{accepted, planned_arrays, reasons, table};
+use crate::samples::{planned_arrays, reasons, table};
 use reference::{entries, first_rounding, Table};
 use tables::papers::WeightedArrays;
-use tables::{papers, Generator};
+use tables::Generator;
 
 /// Each entry, in the words of the specification: over the weight, rounded down or
 /// up, and a whole entry stays.
@@ -21,7 +21,7 @@ fn is_rounding(rows: usize, columns: usize, weight: u64, cells: &[u64], counts: 
 
 /// The controlled roundings among all arrays with counts up to the largest cell's,
 /// rounded up, in the stated order.
-fn all_roundings(rows: usize, columns: usize, weight: u64, cells: &[u64]) -> Vec<Vec<u64>> {
+pub fn all_roundings(rows: usize, columns: usize, weight: u64, cells: &[u64]) -> Vec<Vec<u64>> {
     let largest = cells.iter().max().expect("a table has cells");
     let values = largest.div_ceil(weight) + 1;
     let size = (rows * columns) as u32;
@@ -127,7 +127,7 @@ fn assert_same_as_brute_force(table: &Table) {
 }
 
 /// Calls the check for every table of this size with cells up to the largest.
-fn for_all_tables(rows: u32, columns: u32, denominator: u32, largest: u32, check: fn(&Table)) {
+pub fn for_all_tables(rows: u32, columns: u32, denominator: u32, largest: u32, check: fn(&Table)) {
     let size = rows * columns;
     let values = largest + 1;
     for index in 0..values.pow(size) {
@@ -213,10 +213,4 @@ fn random_first_roundings_of_four_by_four() {
         let first = all_roundings(4, 4, weight, &cells).remove(0);
         assert_eq!(first_rounding(4, 4, weight, &cells), first, "{cells:?}");
     }
-}
-
-#[test]
-fn problem_2_1_of_document_004_has_six_arrays() {
-    let problem = accepted(&papers::problem_2_1());
-    assert_eq!(all_roundings(3, 3, 10, &problem.cells).len(), 6);
 }

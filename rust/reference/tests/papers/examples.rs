@@ -167,6 +167,11 @@ fn problem_2_1_of_document_004_is_planned() {
 }
 
 #[test]
+fn problem_2_2_of_document_004_is_planned() {
+    assert_planned_soundly(&accepted(&papers::problem_2_2()), 8);
+}
+
+#[test]
 fn problem_2_4_of_document_004_is_planned() {
     assert_planned_soundly(&accepted(&papers::problem_2_4()), 37);
 }
@@ -184,6 +189,13 @@ fn the_three_arrays_of_document_001_open() {
 fn both_solutions_of_document_004_to_problem_2_1_open() {
     assert_opens(stated_plan(papers::problem_2_1_common()));
     assert_opens(stated_plan(papers::problem_2_1_method_3()));
+}
+
+#[test]
+fn the_solutions_of_document_004_to_problem_2_2_open() {
+    assert_opens(stated_plan(papers::problem_2_2_new_methods()));
+    assert_opens(stated_plan(papers::problem_2_2_sitter_skinner()));
+    assert_opens(stated_plan(papers::problem_2_2_jessen()));
 }
 
 #[test]

@@ -13,3 +13,4 @@ mod samples;
 mod stored_plans;
 mod text;
 mod variances;
+mod walks;

@@ -20,6 +20,7 @@ pub mod runs;
 pub mod stored;
 pub mod text;
 pub mod variances;
+pub mod walk;
 
 use crate::GivenTable;
 

@@ -1,12 +1,13 @@
-//! Tables: their check, controlled roundings, the calls "rounding", "plan", "reason" and
-//! "pool", the rounding of corrections, and the examples of 01.
+//! Tables: their check, controlled roundings, the calls "rounding", "walk first", "walk
+//! next", "plan", "reason" and "pool", the rounding of corrections, and the examples of 01.
 
 use super::assert_rows;
 use crate::samples::{accepted, planned_arrays, stored_plan};
-use reference::{draw, is_controlled_rounding, is_signed_rounding, number_of, Refusal, Table};
+use reference::{draw, is_controlled_rounding, is_signed_rounding, number_of};
+use reference::{Refusal, Step, Table};
 use tables::literal::examples::{self, Row, Said};
 use tables::literal::pool::{self, Buffers, Pool};
-use tables::literal::{check, corrections, plan, reason, round};
+use tables::literal::{check, corrections, plan, reason, round, walk};
 use tables::GivenTable;
 
 /// The number that a table's check gives.
@@ -70,6 +71,41 @@ fn calls_of_round_signed() {
             (number_of(answer), counts),
             (row.number, row.result.clone()),
         )
+    });
+}
+
+#[test]
+fn calls_of_walk_first() {
+    assert_rows(&walk::first_calls(), |row| {
+        let (given, mut counts) = (&row.given, row.buffer.clone());
+        let answer = reference::walk_first(
+            given.rows,
+            given.columns,
+            given.denominator,
+            &given.cells,
+            &mut counts,
+        );
+        (
+            (number_of(answer), counts),
+            (row.number, row.result.clone()),
+        )
+    });
+}
+
+#[test]
+fn calls_of_walk_next() {
+    assert_rows(&walk::next_calls(), |row| {
+        let (given, mut counts) = (&row.given.table, row.buffer.clone());
+        let answer = reference::walk_next(
+            given.rows,
+            given.columns,
+            given.denominator,
+            &given.cells,
+            &row.given.array,
+            &mut counts,
+        );
+        let number = answer.map_or_else(Refusal::number, Step::number);
+        ((number, counts), (row.number, row.result.clone()))
     });
 }
 
