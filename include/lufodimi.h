@@ -1,4 +1,4 @@
-/* Controlled selection: roundings, pooled tables, plans, draws, campaigns and variances. For x86-64 and the C ABI of its systems.
+/* Controlled selection: roundings, walks, pooled tables, plans, draws, campaigns and variances. For x86-64 and the C ABI of its systems.
  *
  * A table has rows and columns of cells, whole numbers in row order, over one denominator: a cell over the denominator is the count
  * expected there. A plan is a list of whole-number arrays, one count a cell, with weights that add up to the denominator. Draw numbers
@@ -8,8 +8,9 @@
  * A correction sheet is a table whose cells may be negative. Only lufodimi_round_signed takes one; it has no plan. In every other call a
  * negative cell, handed over as its bits, is above every bound and refused (4).
  *
- * Every call checks what it is lent. It returns LUFODIMI_DONE, and lufodimi_plan the plan's length, or the number of the first refusal
- * that applies: a call's comment lists its refusals in the order in which they are tested. A refusal changes no buffer.
+ * Every call checks what it is lent. It returns LUFODIMI_DONE, lufodimi_plan the plan's length, and lufodimi_walk_next LUFODIMI_LAST where
+ * a walk is at its end; or the number of the first refusal that applies: a call's comment lists its refusals in the order in which they
+ * are tested. A refusal changes no buffer.
  *
  * What a call is lent:
  * - A length counts elements, not bytes. A pointer is never null, not even with length 0, and is aligned for its elements.
@@ -44,6 +45,10 @@ extern "C" {
 #define LUFODIMI_MOST_COLUMNS 12
 #define LUFODIMI_LARGEST_DENOMINATOR 65535
 
+/* The most rows and columns of a table that is walked through. */
+#define LUFODIMI_MOST_WALK_ROWS 4
+#define LUFODIMI_MOST_WALK_COLUMNS 4
+
 /* How many rounds a campaign has. */
 #define LUFODIMI_MOST_ROUNDS 1000
 
@@ -63,20 +68,23 @@ extern "C" {
 /* What a call returns, but for the length of a plan. */
 enum lufodimi_answer {
     LUFODIMI_DONE = 0,
-    LUFODIMI_SIZE = 1,         /* rows or columns not from 1 to 12 */
-    LUFODIMI_DENOMINATOR = 2,  /* denominator not from 1 to 65,535 */
-    LUFODIMI_CELL_COUNT = 3,   /* the cells are not rows times columns many */
-    LUFODIMI_LARGE_CELL = 4,   /* a cell above 1000 times the denominator, or a correction below -1000 times it */
-    LUFODIMI_LAYOUT = 5,       /* the stored plan's form, zero field, rows, columns, arrays, denominator, an offset or the length wrong */
-    LUFODIMI_CONTENT = 6,      /* another condition of opening unmet: a cell, a weight or a count, or what they add up to */
-    LUFODIMI_BUFFER = 7,       /* a lent buffer shorter than its result or record */
-    LUFODIMI_NUMBER = 8,       /* draw number not below the denominator */
-    LUFODIMI_RECORD = 9,       /* the record does not fit the plan */
-    LUFODIMI_TAKEN = 10,       /* the number is taken in this round */
-    LUFODIMI_MULTIPLE = 11,    /* the least common multiple of the two denominators is above 65,535 */
-    LUFODIMI_POOLED_CELL = 12, /* a pooled cell is above 1000 times the multiple */
-    LUFODIMI_ROUNDS = 13,      /* the 1,000 rounds of the campaign are done */
-    LUFODIMI_ARRAY = 14        /* the plan has no array of that number */
+    LUFODIMI_SIZE = 1,          /* rows or columns not from 1 to 12 */
+    LUFODIMI_DENOMINATOR = 2,   /* denominator not from 1 to 65,535 */
+    LUFODIMI_CELL_COUNT = 3,    /* the cells are not rows times columns many */
+    LUFODIMI_LARGE_CELL = 4,    /* a cell above 1000 times the denominator, or a correction below -1000 times it */
+    LUFODIMI_LAYOUT = 5,        /* the stored plan's form, zero field, rows, columns, arrays, denominator, an offset or the length wrong */
+    LUFODIMI_CONTENT = 6,       /* another condition of opening unmet: a cell, a weight or a count, or what they add up to */
+    LUFODIMI_BUFFER = 7,        /* a lent buffer shorter than its result or record */
+    LUFODIMI_NUMBER = 8,        /* draw number not below the denominator */
+    LUFODIMI_RECORD = 9,        /* the record does not fit the plan */
+    LUFODIMI_TAKEN = 10,        /* the number is taken in this round */
+    LUFODIMI_MULTIPLE = 11,     /* the least common multiple of the two denominators is above 65,535 */
+    LUFODIMI_POOLED_CELL = 12,  /* a pooled cell is above 1000 times the multiple */
+    LUFODIMI_ROUNDS = 13,       /* the 1,000 rounds of the campaign are done */
+    LUFODIMI_ARRAY = 14,        /* the plan has no array of that number */
+    LUFODIMI_WALK_SIZE = 15,    /* rows or columns above 4, of a table that is walked through */
+    LUFODIMI_NOT_ROUNDING = 16, /* the array is no controlled rounding of the table, or has another length */
+    LUFODIMI_LAST = 255         /* no refusal: the array was the last of the walk */
 };
 
 /* The kind of an entry, the first number that lufodimi_reason writes. */
@@ -113,6 +121,23 @@ uint32_t lufodimi_round(uint32_t rows, uint32_t columns, uint32_t denominator,
 uint32_t lufodimi_round_signed(uint32_t rows, uint32_t columns, uint32_t denominator,
                                const int32_t *cells, size_t cells_length,
                                int16_t *counts, size_t counts_length);
+
+/* Begins a walk through all controlled roundings of a table of up to LUFODIMI_MOST_WALK_ROWS by LUFODIMI_MOST_WALK_COLUMNS: writes the
+ * first, just as lufodimi_round does. A controlled rounding has each cell, row total, column total and the grand total at the table's over
+ * the denominator, rounded down or up, and a whole one stays. Refusals 1, 15, 2, 3, 4, 7. */
+uint32_t lufodimi_walk_first(uint32_t rows, uint32_t columns, uint32_t denominator,
+                             const uint32_t *cells, size_t cells_length,
+                             uint16_t *counts, size_t counts_length);
+
+/* Goes on with the walk: takes a controlled rounding of the table, writes the one after it to another buffer and returns LUFODIMI_DONE, or
+ * returns LUFODIMI_LAST where it is the last and writes nothing. They stand in the order of the smaller count at the first cell, in row
+ * order, where two differ. Begun with lufodimi_walk_first, and handed each time the array that was written last, the walk comes to each
+ * controlled rounding of the table exactly once, and to nothing else; it may as well begin at any of them. Refusals 1, 15, 2, 3, 4, 16, 7,
+ * and 7 at the last array too. */
+uint32_t lufodimi_walk_next(uint32_t rows, uint32_t columns, uint32_t denominator,
+                            const uint32_t *cells, size_t cells_length,
+                            const uint16_t *array, size_t array_length,
+                            uint16_t *counts, size_t counts_length);
 
 /* Pools two tables of the same rows and columns: writes the least common multiple of their denominators, one number, and the cells over
  * it, rows times columns numbers, in row order, each exactly the sum of the two expected counts. Refusals 1, 2, 3, 4, 11, 12, 7; 2, 3 and
