@@ -2,9 +2,10 @@
 //!
 //! The functions named `lufodimi_` are the C calls as `include/lufodimi.h` declares them.
 //! Beside each stands a safe function that lends slices with their lengths and hands on
-//! what the call returns: 0, and of planning the plan's length, or the number of the first
-//! refusal that applies. Each call lists its refusals in the order in which they are
-//! tested. A refusal changes no buffer. The crate `lufodimi` makes types of all this.
+//! what the call returns: 0, of planning the plan's length, at the end of a walk 255, or the
+//! number of the first refusal that applies. Each call lists its refusals in the order in
+//! which they are tested. A refusal changes no buffer. The crate `lufodimi` makes types of
+//! all this.
 //!
 //! Make the library once with `scripts/library` in the repository. The variable
 //! `LUFODIMI_LIB_DIR` names another folder than the repository's own `target/lib`.
@@ -41,6 +42,7 @@ mod reason;
 mod round;
 mod round_signed;
 mod variances;
+mod walk;
 
 pub use campaign::{campaign_draw, lufodimi_campaign_draw, lufodimi_record, lufodimi_start, start};
 pub use draw::{draw, lufodimi_draw};
@@ -55,3 +57,4 @@ pub use reason::{
 pub use round::{lufodimi_round, round};
 pub use round_signed::{lufodimi_round_signed, round_signed};
 pub use variances::{lufodimi_variances, variances};
+pub use walk::{lufodimi_walk_first, lufodimi_walk_next, walk_first, walk_next, LUFODIMI_LAST};

@@ -16,6 +16,7 @@ mod refusal;
 mod rounding;
 mod table;
 mod variances;
+mod walk;
 
 pub use array::{Array, Arrays};
 pub use campaign::{Campaign, Remaining};
@@ -27,3 +28,4 @@ pub use record::{Record, RecordError};
 pub use refusal::Refusal;
 pub use table::{PoolError, Table};
 pub use variances::Variances;
+pub use walk::Roundings;

@@ -50,10 +50,14 @@ pub enum Refusal {
     Rounds = 13,
     /// An array number that the plan does not have: 0, or above the number of arrays.
     Array = 14,
+    /// Rows or columns above 4, of a table that is to be walked through.
+    WalkSize = 15,
+    /// An array that is no controlled rounding of the table, or has another length.
+    NotRounding = 16,
 }
 
 /// The refusals in the order of their numbers.
-const REFUSALS: [Refusal; 14] = [
+const REFUSALS: [Refusal; 16] = [
     Refusal::Size,
     Refusal::Denominator,
     Refusal::CellCount,
@@ -68,6 +72,8 @@ const REFUSALS: [Refusal; 14] = [
     Refusal::PooledCell,
     Refusal::Rounds,
     Refusal::Array,
+    Refusal::WalkSize,
+    Refusal::NotRounding,
 ];
 
 impl Refusal {
@@ -115,6 +121,12 @@ impl Display for Refusal {
             Refusal::PooledCell => "a pooled cell is above 1000 times the multiple",
             Refusal::Rounds => "the 1,000 rounds of the campaign are done",
             Refusal::Array => "the plan has no array of that number",
+            Refusal::WalkSize => {
+                "rows or columns are above 4, the most of a table that is walked through"
+            }
+            Refusal::NotRounding => {
+                "the array is no controlled rounding of the table, or has another length"
+            }
         })
     }
 }
@@ -135,7 +147,7 @@ mod tests {
 
     #[test]
     fn every_number_has_its_refusal_and_a_sentence() {
-        for number in 1..=14 {
+        for number in 1..=16 {
             let refusal = Refusal::of(number);
             assert_eq!(refusal.number(), number);
             let sentence = refusal.to_string();

@@ -3,7 +3,7 @@ mod error;
 pub use error::PoolError;
 
 use crate::refusal::accepted;
-use crate::{rounding, Reason, Refusal};
+use crate::{rounding, Reason, Refusal, Roundings};
 use alloc::vec;
 use alloc::vec::Vec;
 
@@ -55,6 +55,20 @@ impl Table {
     /// assert_eq!(lufodimi::Table::MAX_COUNT, 1000);
     /// ```
     pub const MAX_COUNT: u32 = 1000;
+
+    /// The most rows of a table that is walked through.
+    ///
+    /// ```
+    /// assert_eq!(lufodimi::Table::MAX_WALK_ROWS, 4);
+    /// ```
+    pub const MAX_WALK_ROWS: u32 = 4;
+
+    /// The most columns of a table that is walked through.
+    ///
+    /// ```
+    /// assert_eq!(lufodimi::Table::MAX_WALK_COLUMNS, 4);
+    /// ```
+    pub const MAX_WALK_COLUMNS: u32 = 4;
 
     /// A table of rows times columns cells, in row order.
     ///
@@ -145,6 +159,53 @@ impl Table {
     /// ```
     pub fn round(&self) -> Vec<u16> {
         rounding::counts(self.cells.len(), |counts| self.rounded(counts))
+    }
+
+    /// All controlled roundings of the table, each exactly once: those with the smaller count
+    /// at the first cell, in row order, where two differ come first, so that it begins with
+    /// [`round`](Table::round).
+    ///
+    /// ```
+    /// use lufodimi::{Refusal, Table};
+    ///
+    /// let table = Table::new(2, 2, 10, [3, 4, 5, 6])?;
+    /// let all = [[0, 0, 0, 1], [0, 0, 1, 1], [0, 1, 1, 0], [1, 0, 0, 1]];
+    /// assert!(table.roundings()?.eq(all));
+    ///
+    /// let large = Table::new(5, 1, 2, [1; 5])?;
+    /// assert_eq!(large.roundings().err(), Some(Refusal::WalkSize));
+    /// # Ok::<(), Refusal>(())
+    /// ```
+    ///
+    /// # Errors
+    ///
+    /// [`Refusal::WalkSize`] if there are more than four rows or more than four columns.
+    pub fn roundings(&self) -> Result<Roundings<'_>, Refusal> {
+        Roundings::of(self)
+    }
+
+    /// The controlled roundings of the table after one of them, so that a walk can be gone on
+    /// with; none if it is the last. It also tells whether an array is a controlled rounding.
+    ///
+    /// ```
+    /// use lufodimi::{Refusal, Table};
+    ///
+    /// let table = Table::new(2, 2, 10, [3, 4, 5, 6])?;
+    /// assert!(table.roundings_after(&[0, 0, 1, 1])?.eq([[0, 1, 1, 0], [1, 0, 0, 1]]));
+    /// assert_eq!(table.roundings_after(&[1, 0, 0, 1])?.next(), None);
+    ///
+    /// let refused = table.roundings_after(&[0, 0, 0, 0]).err();
+    /// assert_eq!(refused, Some(Refusal::NotRounding));
+    /// # Ok::<(), Refusal>(())
+    /// ```
+    ///
+    /// # Errors
+    ///
+    /// [`Refusal::WalkSize`] if there are more than four rows or more than four columns, and
+    /// [`Refusal::NotRounding`] if the array is no controlled rounding of the table or has
+    /// another length.
+    pub fn roundings_after(&self, array: &[u16]) -> Result<Roundings<'_>, Refusal> {
+        Roundings::after(self, array)
     }
 
     /// The pooled table of this one and another of the same rows and columns. Its
