@@ -14,6 +14,7 @@ mod print;
 mod reason;
 mod round;
 mod variances;
+mod walk;
 
 use compare::cases::{case_seed, Calls, Difference, Kind, Named};
 use compare::request::Request;
@@ -24,6 +25,7 @@ use tables::Generator;
 const CALLS: &[(&[Kind], &[Named])] = &[
     (round::KINDS, round::NAMED),
     (corrections::KINDS, corrections::NAMED),
+    (walk::KINDS, walk::NAMED),
     (pool::KINDS, pool::NAMED),
     (plan::KINDS, plan::NAMED),
     (reason::KINDS, reason::NAMED),
