@@ -1,4 +1,5 @@
-//! Times of the calls on tables of twelve by twelve over the largest denominator.
+//! Times of the calls on tables of twelve by twelve over the largest denominator, and of
+//! walks on tables of four by four.
 
 mod campaign;
 mod draw;
@@ -6,6 +7,7 @@ mod open;
 mod plan;
 mod reason;
 mod variances;
+mod walk;
 
 use benchmark::inputs;
 
@@ -18,4 +20,5 @@ fn main() {
     draw::measure(&plans);
     campaign::measure(&plans);
     variances::measure(&plans);
+    walk::measure();
 }

@@ -29,4 +29,13 @@ impl Times {
         let sum: Duration = self.shortest.iter().sum();
         sum.as_secs_f64() * 1e6 / self.shortest.len() as f64
     }
+
+    /// The item with the longest time, and that time in microseconds.
+    pub fn longest(&self) -> (usize, f64) {
+        let times = self.shortest.iter().enumerate();
+        let (item, time) = times
+            .max_by_key(|(_, time)| **time)
+            .expect("there is an item");
+        (item, time.as_secs_f64() * 1e6)
+    }
 }
