@@ -1,4 +1,4 @@
-"""Controlled selection over the proved library: tables, corrections, plans, the reasons of their weights, draws, campaigns and variances.
+"""Controlled selection over the proved library: tables, their roundings, corrections, plans, the reasons of their weights, draws, campaigns and variances.
 
     stored = lufodimi.plan(2, 2, 10, [3, 4, 5, 6])      # rows, columns, denominator, cells in row order; bytes to keep
     campaign = lufodimi.Campaign(lufodimi.Plan(stored))
@@ -20,9 +20,9 @@ import pathlib
 import secrets
 import struct
 from ctypes import POINTER, c_char_p, c_int16, c_int32, c_int64, c_size_t, c_uint8, c_uint16, c_uint32, c_uint64
-from typing import Iterable, NamedTuple
+from typing import Iterable, Iterator, NamedTuple
 
-LONGEST_PLAN, SHORTEST_PLAN, MOST_CELLS, MOST_ROUNDS = 50_912, 30, 144, 1_000
+LONGEST_PLAN, SHORTEST_PLAN, MOST_CELLS, MOST_ROUNDS, LAST = 50_912, 30, 144, 1_000, 255
 # A stored record: LUFR, the form, the rounds, how many numbers are taken, how many bytes of bits and sums of the tally follow. Form 1 has no rounds, but zero.
 _HEAD, _SUMS = struct.Struct("<4sHHIII"), {1: "I", 2: "Q"}
 # What the library's numbers for an entry's kind and for how it is rounded stand for.
@@ -42,11 +42,13 @@ SENTENCES = {
     12: "A pooled cell is above 1000 times the multiple.",
     13: "The 1,000 rounds of the campaign are done.",
     14: "The plan has no array of that number.",
+    15: "The table has more than 4 rows or more than 4 columns, too many to be walked through.",
+    16: "The array is no controlled rounding of the table, or has another length.",
 }
 
 
 class Refusal(Exception):
-    """Why a call turned its input back: its `number`, from 1 to 14 (7 cannot occur here), and as text its sentence."""
+    """Why a call turned its input back: its `number`, from 1 to 16 (7 cannot occur here), and as text its sentence."""
 
     def __init__(self, number: int):
         super().__init__(SENTENCES[number])
@@ -72,6 +74,8 @@ _words, _counts, _plan = [POINTER(c_uint32), c_size_t], [POINTER(c_uint16), c_si
 _table, _record = [c_uint32] * 3 + _words, [POINTER(_Record), POINTER(c_uint8), c_size_t, POINTER(c_uint64), c_size_t]
 _library.lufodimi_round.argtypes = _table + _counts
 _library.lufodimi_round_signed.argtypes = [c_uint32] * 3 + [POINTER(c_int32), c_size_t, POINTER(c_int16), c_size_t]
+_library.lufodimi_walk_first.argtypes = _table + _counts
+_library.lufodimi_walk_next.argtypes = _table + _counts * 2
 _library.lufodimi_pool.argtypes = _table + [c_uint32] + _words * 3
 _library.lufodimi_plan.argtypes = _table + _plan
 _library.lufodimi_reason.argtypes = _table + [c_uint32] + _words
@@ -118,6 +122,31 @@ def round_corrections(rows: int, columns: int, denominator: int, cells: Iterable
     counts = (c_int16 * MOST_CELLS)()
     _call("round_signed", *_lent_table(rows, columns, denominator, cells, signed=True), counts, MOST_CELLS)
     return counts[: rows * columns]
+
+
+def roundings(rows: int, columns: int, denominator: int, cells: Iterable[int], after: Iterable[int] | None = None) -> Iterator[list[int]]:
+    """All controlled roundings of a table of up to four by four, each exactly once, or those after a given one. They come one by one, the one with the smaller
+    count at the first cell, in row order, where two differ before the other; so the first is that of `round_table`. Refusals 1, 15, 2, 3, 4, and 16 where
+    `after` is no controlled rounding of the table or has another length; they are raised by the call, before anything is asked of its generator."""
+    table = _lent_table(rows, columns, denominator, cells)
+    counts = (c_uint16 * MOST_CELLS)()
+    if after is None:
+        answer = _call("walk_first", *table, counts, MOST_CELLS)
+    else:
+        # What 16 bits cannot hold goes over as a count that no controlled rounding has, which the library refuses (16).
+        array = [count if 0 <= count < 2**16 else 2**16 - 1 for count in map(operator.index, after)]
+        answer = _call("walk_next", *table, (c_uint16 * len(array))(*array), len(array), counts, MOST_CELLS)
+    return _walk(table, None if answer == LAST else counts[: rows * columns])
+
+
+def _walk(table: tuple, array: list[int] | None) -> Iterator[list[int]]:
+    """The array and those after it, or nothing."""
+    counts = (c_uint16 * MOST_CELLS)()
+    while array is not None:
+        size = len(array)
+        yield list(array)
+        answer = _call("walk_next", *table, (c_uint16 * size)(*array), size, counts, MOST_CELLS)
+        array = None if answer == LAST else counts[:size]
 
 
 def pool(

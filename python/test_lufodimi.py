@@ -1,4 +1,5 @@
 """Tests of the Python module; the last line is 'N passed, 0 failed' if all passed."""
+import itertools
 import os
 import pathlib
 import subprocess
@@ -22,6 +23,17 @@ BOOKED = [-2, 0, 0, 0, 1, -1, -1, 1, 0, -1, -2, 0]
 # Two rows and three columns over 10, in whose plan every kind of entry sets a weight.
 EVERY_KIND = [22, 1, 0, 14, 16, 6]
 
+# Jessen's problem of 1970, three by three over 10, and all its controlled roundings.
+JESSEN = [8, 5, 7, 7, 8, 5, 5, 7, 8]
+SIX = [
+    [0, 1, 1, 1, 0, 1, 1, 1, 0],
+    [0, 1, 1, 1, 1, 0, 1, 0, 1],
+    [1, 0, 1, 0, 1, 1, 1, 1, 0],
+    [1, 0, 1, 1, 1, 0, 0, 1, 1],
+    [1, 1, 0, 0, 1, 1, 1, 0, 1],
+    [1, 1, 0, 1, 0, 1, 0, 1, 1],
+]
+
 
 def campaign(record=None):
     return lufodimi.Campaign(lufodimi.Plan(lufodimi.plan(2, 2, 10, CELLS)), record)
@@ -38,6 +50,71 @@ class Tests(unittest.TestCase):
         self.assertEqual(lufodimi.round_table(2, 2, 2, [1, 1, 1, 1]), [0, 1, 1, 0])
         self.assertEqual(lufodimi.round_table(1, 2, 4, (4, 6)), [1, 1])
         self.assertEqual(lufodimi.round_table(12, 12, 1, range(144)), list(range(144)))
+
+    def test_roundings(self):
+        self.assertEqual(list(lufodimi.roundings(3, 3, 10, JESSEN)), SIX)
+        self.assertEqual(list(lufodimi.roundings(3, 3, 10, iter(JESSEN))), SIX)
+        self.assertEqual(list(lufodimi.roundings(2, 2, 10, CELLS)), [[0, 0, 0, 1], [0, 0, 1, 1], [0, 1, 1, 0], [1, 0, 0, 1]])
+        self.assertEqual(list(lufodimi.roundings(1, 1, 3, [2])), [[0], [1]])
+        self.assertEqual(list(lufodimi.roundings(1, 1, 65_535, [65_534_999])), [[999], [1_000]])
+        self.assertEqual(list(lufodimi.roundings(4, 4, 7, range(0, 112, 7))), [list(range(16))])
+        thirty = list(lufodimi.roundings(4, 4, 10, [0, 6, 10, 4, 8, 4, 4, 4, 6, 2, 4, 8, 6, 8, 2, 4]))
+        self.assertEqual((len(thirty), thirty), (30, sorted(thirty)))
+
+    def test_roundings_are_those_found_by_trying(self):
+        def entries(cells):
+            rows = [sum(cells[start : start + 3]) for start in range(0, 6, 3)]
+            return [*cells, *rows, *(sum(cells[start::3]) for start in range(3)), sum(cells)]
+
+        for cells in ([3, 4, 5, 20, 6, 7], [22, 1, 0, 14, 16, 6], [5] * 6, [10, 20, 30, 40, 50, 60]):
+            choices = itertools.product(*({cell // 10, -(-cell // 10)} for cell in cells))
+            found = [list(counts) for counts in choices if all(abs(10 * n - e) < 10 for n, e in zip(entries(counts), entries(cells)))]
+            self.assertEqual(list(lufodimi.roundings(2, 3, 10, cells)), sorted(found))
+
+    def test_roundings_and_the_plan(self):
+        walked = list(lufodimi.roundings(3, 4, 10, STANDING))
+        self.assertEqual(walked[0], lufodimi.round_table(3, 4, 10, STANDING))
+        for array in lufodimi.Plan(lufodimi.plan(3, 4, 10, STANDING)).arrays():
+            self.assertIn(array.counts, walked)
+
+    def test_roundings_after_one(self):
+        for place, array in enumerate(SIX):
+            self.assertEqual(list(lufodimi.roundings(3, 3, 10, JESSEN, array)), SIX[place + 1 :])
+            self.assertEqual(list(lufodimi.roundings(3, 3, 10, JESSEN, after=iter(array))), SIX[place + 1 :])
+
+    def test_roundings_come_one_by_one(self):
+        walk = lufodimi.roundings(3, 3, 10, JESSEN)
+        other = lufodimi.roundings(3, 3, 10, JESSEN)
+        first = next(walk)
+        self.assertEqual(next(other), SIX[0])
+        first[0] = 7  # a list of its own
+        self.assertEqual([*walk], SIX[1:])
+        self.assertEqual([*walk], [])
+        self.assertEqual([*other], SIX[1:])
+
+    def test_refusals_of_roundings(self):
+        call = lufodimi.roundings
+        self.refused(1, call, 0, 5, 10, CELLS)
+        self.refused(1, call, 13, 5, 0, [])
+        self.refused(1, call, 2**32 - 1, 2**32 - 1, 10, CELLS)
+        self.refused(1, call, 257, 1, 10, [1])
+        self.refused(15, call, 5, 1, 10, [1] * 5)
+        self.refused(15, call, 1, 5, 0, [])
+        self.refused(15, call, 4, 5, 10, [10_001] * 20, [0])
+        self.refused(15, call, 12, 12, 10, [1] * 144)
+        self.refused(2, call, 2, 2, 0, CELLS)
+        self.refused(2, call, 2, 2, 65_536, [], [0])
+        self.refused(3, call, 2, 2, 10, CELLS + [7])
+        self.refused(3, call, 2, 2, 10, [10_001], [0])
+        self.refused(4, call, 2, 2, 10, [3, 4, 5, 10_001])
+        self.refused(4, call, 2, 2, 10, [3, 4, 5, -1], [0])
+        for after in ([0, 0, 0, 0], [0, 0, 0, 2], [0, 0, 0, 257], [0, 0, 0], [0, 0, 0, 1, 0], []):
+            self.refused(16, call, 2, 2, 10, CELLS, after)
+        # counts whose low 16 bits are those of the first array
+        for first in (2**16, 2**32, -(2**16), 2**64):
+            self.refused(16, call, 2, 2, 10, CELLS, [first, 0, 0, 1])
+        for first in (-1, 2**16 - 1):
+            self.refused(16, call, 1, 1, 65_535, [65_535_000], [first])
 
     def test_corrections(self):
         self.assertEqual(lufodimi.round_corrections(1, 1, 2, [-1]), [-1])
@@ -88,6 +165,7 @@ class Tests(unittest.TestCase):
         for cell in (-1, -65_535_000, -(2**31), 2**32 - 1, 2**32 - 65_535_000, 2**31):
             table = 65_535, [3, 4, 5, cell]
             self.refused(4, lufodimi.round_table, 2, 2, *table)
+            self.refused(4, lufodimi.roundings, 2, 2, *table)
             self.refused(4, lufodimi.plan, 2, 2, *table)
             self.refused(4, lufodimi.reason, 2, 2, *table, 1)
             self.refused_pool(4, 2, 2, table, (10, CELLS))
