@@ -74,6 +74,10 @@ eights n = replicate n 8
 abbrev pub jessen : Sheet
 jessen = sheet 3 3 10 (8 ∷ 5 ∷ 7 ∷ 7 ∷ 8 ∷ 5 ∷ 5 ∷ 7 ∷ 8 ∷ [])
 
+-- the first table of the specification's examples; four arrays
+abbrev pub listing : Sheet
+listing = sheet 2 2 10 (3 ∷ 4 ∷ 5 ∷ 6 ∷ [])
+
 -- two rows and three columns, with a whole cell; seven arrays
 abbrev pub wide : Sheet
 wide = sheet 2 3 10 (3 ∷ 4 ∷ 5 ∷ 20 ∷ 6 ∷ 7 ∷ [])
@@ -96,6 +100,7 @@ square = sheet 4 4 2 (replicate 14 0 ++ (1 ∷ 1 ∷ []))
 abbrev pub firsts : List First
 firsts =
     begins jessen (eights 9) (0 ∷ 1 ∷ 1 ∷ 1 ∷ 0 ∷ 1 ∷ 1 ∷ 1 ∷ 0 ∷ [])
+    ∷ begins listing (eights 4) (0 ∷ 0 ∷ 0 ∷ 1 ∷ [])
     ∷ begins wide (eights 6) (0 ∷ 0 ∷ 1 ∷ 2 ∷ 1 ∷ 0 ∷ [])
     ∷ begins whole (eights 4) (0 ∷ 1 ∷ 2 ∷ 3 ∷ [])
     ∷ begins half (eights 1) (0 ∷ [])
@@ -126,7 +131,7 @@ firsts =
     ∷ refusesFirst (sheet 1 1 65535 (4294967295 ∷ [])) (eights 1) 4
     -- 15 with each of 1, 2, 3, 4 and 7
     ∷ refusesFirst (sheet 0 5 1 []) (eights 5) 1
-    ∷ refusesFirst (sheet 5 13 1 (replicate 65 0)) (eights 65) 1
+    ∷ refusesFirst (sheet 13 5 1 (replicate 65 0)) (eights 65) 1
     ∷ refusesFirst (sheet 5 1 0 (replicate 5 0)) (eights 5) 15
     ∷ refusesFirst (sheet 1 5 1 (replicate 4 0)) (eights 5) 15
     ∷ refusesFirst (sheet 5 1 1 (1001 ∷ replicate 4 0)) (eights 5) 15
@@ -147,6 +152,14 @@ steps =
     ∷ goesOn jessen (1 ∷ 0 ∷ 1 ∷ 1 ∷ 1 ∷ 0 ∷ 0 ∷ 1 ∷ 1 ∷ []) (eights 9) (1 ∷ 1 ∷ 0 ∷ 0 ∷ 1 ∷ 1 ∷ 1 ∷ 0 ∷ 1 ∷ [])
     ∷ goesOn jessen (1 ∷ 1 ∷ 0 ∷ 0 ∷ 1 ∷ 1 ∷ 1 ∷ 0 ∷ 1 ∷ []) (eights 9) (1 ∷ 1 ∷ 0 ∷ 1 ∷ 0 ∷ 1 ∷ 0 ∷ 1 ∷ 1 ∷ [])
     ∷ isLast jessen (1 ∷ 1 ∷ 0 ∷ 1 ∷ 0 ∷ 1 ∷ 0 ∷ 1 ∷ 1 ∷ []) (eights 9)
+    -- the walk of the specification's examples, with 7 at its last array and 16 for arrays that are none of it
+    ∷ goesOn listing (0 ∷ 0 ∷ 0 ∷ 1 ∷ []) (eights 4) (0 ∷ 0 ∷ 1 ∷ 1 ∷ [])
+    ∷ goesOn listing (0 ∷ 0 ∷ 1 ∷ 1 ∷ []) (eights 4) (0 ∷ 1 ∷ 1 ∷ 0 ∷ [])
+    ∷ goesOn listing (0 ∷ 1 ∷ 1 ∷ 0 ∷ []) (eights 4) (1 ∷ 0 ∷ 0 ∷ 1 ∷ [])
+    ∷ isLast listing (1 ∷ 0 ∷ 0 ∷ 1 ∷ []) (eights 4)
+    ∷ refusesStep listing (1 ∷ 0 ∷ 0 ∷ 1 ∷ []) (eights 3) 7
+    ∷ refusesStep listing (0 ∷ 0 ∷ 0 ∷ 0 ∷ []) (eights 4) 16
+    ∷ refusesStep listing (0 ∷ 0 ∷ 0 ∷ []) (eights 4) 16
     -- rows and columns not equally many, with a whole cell
     ∷ goesOn wide (0 ∷ 0 ∷ 1 ∷ 2 ∷ 1 ∷ 0 ∷ []) (eights 6) (0 ∷ 0 ∷ 1 ∷ 2 ∷ 1 ∷ 1 ∷ [])
     ∷ goesOn wide (0 ∷ 0 ∷ 1 ∷ 2 ∷ 1 ∷ 1 ∷ []) (eights 6) (0 ∷ 1 ∷ 0 ∷ 2 ∷ 0 ∷ 1 ∷ [])

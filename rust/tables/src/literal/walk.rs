@@ -35,6 +35,11 @@ fn jessen() -> GivenTable {
     papers::problem_2_1()
 }
 
+/// The first table of the specification's examples; four arrays.
+fn listing() -> GivenTable {
+    papers::listing().table
+}
+
 /// Two rows and three columns, with a whole cell; seven arrays.
 fn wide() -> GivenTable {
     table(2, 3, 10, &[3, 4, 5, 20, 6, 7])
@@ -97,6 +102,7 @@ fn refuses_next(given: GivenTable, array: &[u16], buffer: &[u16], number: u32) -
 pub fn first_calls() -> Vec<First> {
     vec![
         begins(jessen(), NINE, &[0, 1, 1, 1, 0, 1, 1, 1, 0]),
+        begins(listing(), FOUR, &[0, 0, 0, 1]),
         begins(wide(), SIX, &[0, 0, 1, 2, 1, 0]),
         begins(whole(), FOUR, &[0, 1, 2, 3]),
         begins(half(), ONE, &[0]),
@@ -128,7 +134,7 @@ pub fn first_calls() -> Vec<First> {
         refuses_first(table(1, 1, 65_535, &[4_294_967_295]), ONE, 4),
         // 15 with each of 1, 2, 3, 4 and 7
         refuses_first(table(0, 5, 1, &[]), FIVE, 1),
-        refuses_first(table(5, 13, 1, &[0; 65]), &[8; 65], 1),
+        refuses_first(table(13, 5, 1, &[0; 65]), &[8; 65], 1),
         refuses_first(table(5, 1, 0, &[0; 5]), FIVE, 15),
         refuses_first(table(1, 5, 1, &[0; 4]), FIVE, 15),
         refuses_first(table(5, 1, 1, &[1001, 0, 0, 0, 0]), FIVE, 15),
@@ -151,6 +157,15 @@ pub fn next_calls() -> Vec<Next> {
         goes_on(jessen(), fourth, NINE, fifth),
         goes_on(jessen(), fifth, NINE, sixth),
         is_last(jessen(), sixth, NINE),
+        // the walk of the specification's examples, with 7 at its last array and 16 for arrays
+        // that are none of it
+        goes_on(listing(), &[0, 0, 0, 1], FOUR, &[0, 0, 1, 1]),
+        goes_on(listing(), &[0, 0, 1, 1], FOUR, &[0, 1, 1, 0]),
+        goes_on(listing(), &[0, 1, 1, 0], FOUR, &[1, 0, 0, 1]),
+        is_last(listing(), &[1, 0, 0, 1], FOUR),
+        refuses_next(listing(), &[1, 0, 0, 1], THREE, 7),
+        refuses_next(listing(), &[0, 0, 0, 0], FOUR, 16),
+        refuses_next(listing(), &[0, 0, 0], FOUR, 16),
         // rows and columns not equally many, with a whole cell
         goes_on(wide(), &[0, 0, 1, 2, 1, 0], SIX, &[0, 0, 1, 2, 1, 1]),
         goes_on(wide(), &[0, 0, 1, 2, 1, 1], SIX, &[0, 1, 0, 2, 0, 1]),
