@@ -1,28 +1,25 @@
 -- The walk of every accepted table of up to four by four ends, and holds each controlled rounding once, in rising order, and none besides. Assumes nothing.
-use mathlib.Core.Path.{_≡_, refl, sym, ap, ap₂, _∙_}
+use mathlib.Core.Path.{_≡_, refl, sym, ap₂, _∙_}
 use mathlib.Core.Logic.{⊎-elim}
 use mathlib.Core.Bool.{true}
 use mathlib.Core.List.{List, [], _∷_, List·Memᴰ as Member, List·Memᴰ·head as here, List·Memᴰ·tail as there, List·Memᴰ·not-nil as member-none, List·Memᴰ·cases-cons as member-cases}
 use mathlib.Core.Option.{Option, some, none}
 use Prim.Native.Nat.{ℕ, zero, suc, _+_, _-_, _*_, _^_, _<_, _≤_}
-use native.Mathlib.Nat.{le-of-suc-le-suc}
 use native.Mathlib.Decide.{decLt}
 use native.Mathlib.Omega.{arith}
-use lib.ListN.{length, getD, take, replicate, length-replicate}
+use lib.ListN.{length, getD, replicate, length-replicate}
 use lib.Pow.{pow-pos}
 use Rattle.base.specs.Lists.{tabulate}
-use Rattle.base.specs.Buffers.{written}
 use Rattle.base.proofs.Lists.{getD-tabulate}
 use Rattle.base.proofs.Buffers.{written-front}
-use Rattle.refusals.specs.declared.Answer.the-variants.{Done}
-use Rattle.refusals.specs.Due.{due, answerOf, after}
+use Rattle.refusals.specs.Due.{answerOf, after}
 use Rattle.table.specs.Whole.{down}
 use Rattle.table.specs.Check.{tableRefusal}
 use Rattle.table.specs.Contracts.{Shape}
 use Rattle.table.proofs.Checks.{passed-all}
 use Rattle.is_rounding.specs.Rounding.{twoWays, isRounding}
-use Rattle.first_rounding.specs.Order.{inOrder, Smaller, Before}
-use Rattle.first_rounding.specs.First.{IsFirst, firstRounding}
+use Rattle.first_rounding.specs.Order.{inOrder, Before}
+use Rattle.first_rounding.specs.First.{firstRounding}
 use Rattle.first_rounding.proofs.Existence.{accepted-exists}
 use Rattle.first_rounding.proofs.Roundings.{rounding-length}
 use Rattle.next_rounding.specs.Next.{IsNext, IsLast, Follows, nextRounding}
@@ -32,7 +29,7 @@ use Rattle.next_rounding.proofs.Following.{one-first, next-follows}
 use Rattle.next_rounding.proofs.Numbers.{number-below, before-less}
 use Rattle.walk.specs.declared.Step.{Step}
 use Rattle.walk.specs.declared.Step.the-variants.{Next, Last}
-use Rattle.walk.specs.Call.{firstRefusal, nextRefusal, nextAnswer, nextLeft}
+use Rattle.walk.specs.Call.{nextAnswer, nextLeft}
 use Rattle.walk.proofs.Calls.{nothing-first, nothing-next}
 use Rattle.demands.specs.Walks.{Begins, GoesOn, Ends, Onward, Walk, Walked}
 

@@ -23,9 +23,7 @@ Begins r c d g n =
 
 -- the second call, handed n, writes k; and it says that n was the last, and writes nothing
 abbrev pub GoesOn : ℕ → ℕ → ℕ → List ℕ → List ℕ → List ℕ → Type 0
-GoesOn r c d g n k =
-    (buffer : List ℕ) → r * c ≤ length buffer
-    → (nextAnswer r c d g n (length buffer) ≡ Next) × (take (r * c) (nextLeft r c d g n buffer) ≡ k)
+GoesOn r c d g n k = (buffer : List ℕ) → r * c ≤ length buffer → (nextAnswer r c d g n (length buffer) ≡ Next) × (take (r * c) (nextLeft r c d g n buffer) ≡ k)
 
 abbrev pub Ends : ℕ → ℕ → ℕ → List ℕ → List ℕ → Type 0
 Ends r c d g n = (buffer : List ℕ) → r * c ≤ length buffer → (nextAnswer r c d g n (length buffer) ≡ Last) × (nextLeft r c d g n buffer ≡ buffer)
