@@ -1,17 +1,18 @@
 -- The ways through the two calls. Assumes nothing.
 use mathlib.Core.Path.{_≡_, refl, sym, ap, _∙_}
 use mathlib.Core.Bool.{Bool, true, false, false≢true, not}
-use mathlib.Core.List.{List, [], _∷_}
+use mathlib.Core.List.{List, [], _∷_, _++_}
 use mathlib.Core.Option.{Option, some, none}
 use Prim.Native.Nat.{ℕ, _*_, _<_, _≤_}
 use lib.ListN.{length}
-use lib.Dec.{leb, ltb}
+use lib.Dec.{leb}
 use borrow.Author.Tests.{le-leb, lt-leb, lt-ltb, le-ltb, leb-true, not-true, not-false}
 use Rattle.base.specs.Buffers.{written}
 use Rattle.base.proofs.Lists.{and-left, and-right}
 use Rattle.refusals.specs.declared.Refusal.{Refusal}
 use Rattle.refusals.specs.declared.Refusal.the-variants.{Size, LargeCell, Buffer, WalkSize, NotRounding}
-use Rattle.refusals.specs.Due.{Test, refuse, due, after}
+use Rattle.refusals.specs.declared.Answer.{Answer}
+use Rattle.refusals.specs.Due.{Test, refuse, due, after, Answers}
 use Rattle.refusals.proofs.Dues.{due-here, due-next, due-first, due-second, not-here, not-later}
 use Rattle.table.specs.Check.{sizeWithin, tableRefusal, cellsWithin, sizeTest, denominatorTest, countTest, BelowZero}
 use Rattle.table.specs.Contracts.{IsTable, answered, checkOf, checkOfCells}
@@ -21,51 +22,73 @@ use Rattle.table.specs.declared.Checked.the-variants as checked
 use Rattle.table.proofs.Checks.{answered-refused, answered-nothing, answered-sizes, passed-all, below-zero}
 use Rattle.is_rounding.specs.Rounding.{twoWays, isRounding}
 use Rattle.first_rounding.specs.First.{firstRounding}
+use Rattle.rounding.specs.Call.{roundRefusal}
 use Rattle.next_rounding.specs.Next.{nextRounding}
 use Rattle.next_rounding.specs.Contracts.{Small, Found}
 use Rattle.walk.specs.declared.Step.{Step}
 use Rattle.walk.specs.declared.Step.the-variants.{Next, Last, Refused}
-use Rattle.walk.specs.Call.{walkWithin, walkTests, roomTest, arrayTests, firstRefusal, nextRefusal, nextAnswer, nextLeft}
+use Rattle.walk.specs.Call.{walkWithin, walkSizeTest, walkTests, roomTest, arrayTests, firstRefusal, nextRefusal, nextAnswer, nextLeft}
 use Rattle.walk.specs.Contracts.{walkCheck}
 
--- the check: 1, 15, and then what the table's own check says
+-- 1 and 15, whatever else is tested after them
+module _ (r c : ℕ) {b : Bool} (e : b ≡ sizeWithin r c) where
+  size-due : not b ≡ true → (l : List Test) → due (sizeTest r c ∷ l) ≡ some Size
+  size-due h l = due-here (sizeTest r c) l (ap not (sym e) ∙ h)
+
+  module _ (h : not b ≡ false) {s : Bool} (f : s ≡ walkWithin r c) where
+    size-passes : (l : List Test) → due (sizeTest r c ∷ l) ≡ due l
+    size-passes l = due-next (sizeTest r c) l (ap not (sym e) ∙ h)
+
+    large-due : not s ≡ true → (l : List Test) → due (sizeTest r c ∷ walkSizeTest r c ∷ l) ≡ some WalkSize
+    large-due i l = size-passes (walkSizeTest r c ∷ l) ∙ due-here (walkSizeTest r c) l (ap not (sym f) ∙ i)
+
+    small-due : not s ≡ false → (l : List Test) → due (sizeTest r c ∷ walkSizeTest r c ∷ l) ≡ due (sizeTest r c ∷ l)
+    small-due i l = size-passes (walkSizeTest r c ∷ l) ∙ due-next (walkSizeTest r c) l (ap not (sym f) ∙ i) ∙ sym (size-passes l)
+
 module _ (r c d : ℕ) (g : List ℕ) where
+  -- the refusals of a table that come after
   abbrev later : List Test
   later = denominatorTest d ∷ countTest (length g) (r * c) ∷ refuse LargeCell (not (cellsWithin d g)) ∷ []
 
+  -- the check, and the first call, in which the table's own follows
   module _ {b : Bool} (e : b ≡ sizeWithin r c) where
     pub bad-size : not b ≡ true → checked.Refused Size ≡ walkCheck r c d g
     unfolding walkCheck
-    bad-size h = ap (answered r c d) (sym (due-here (sizeTest r c) (refuse WalkSize (not (walkWithin r c)) ∷ later) (ap not (sym e) ∙ h)))
+    bad-size h = ap (answered r c d) (sym (size-due r c e h (walkSizeTest r c ∷ later)))
 
-    module _ (h : not b ≡ false) where
-      size-passes : sizeTest r c .applies ≡ false
-      size-passes = ap not (sym e) ∙ h
+    pub first-bad-size : not b ≡ true → (room : ℕ) → firstRefusal r c d g room ≡ some Size
+    unfolding firstRefusal
+    first-bad-size h room = size-due r c e h (walkSizeTest r c ∷ (later ++ (roomTest r c room ∷ [])))
 
-      module _ {s : Bool} (f : s ≡ walkWithin r c) where
-        pub too-large : not s ≡ true → checked.Refused WalkSize ≡ walkCheck r c d g
-        unfolding walkCheck
-        too-large l = ap (answered r c d)
-            (sym (due-next (sizeTest r c) (refuse WalkSize (not (walkWithin r c)) ∷ later) size-passes
-            ∙ due-here (refuse WalkSize (not (walkWithin r c))) later (ap not (sym f) ∙ l)))
+    module _ (h : not b ≡ false) {s : Bool} (f : s ≡ walkWithin r c) where
+      pub too-large : not s ≡ true → checked.Refused WalkSize ≡ walkCheck r c d g
+      unfolding walkCheck
+      too-large i = ap (answered r c d) (sym (large-due r c e h f i later))
 
-        pub small-enough : not s ≡ false → {k : Checked} → k ≡ checkOf r c d g → k ≡ walkCheck r c d g
-        unfolding walkCheck checkOf checkOfCells
-        small-enough l q = q ∙ ap (answered r c d)
-            (due-next (sizeTest r c) later size-passes
-            ∙ sym (due-next (sizeTest r c) (refuse WalkSize (not (walkWithin r c)) ∷ later) size-passes
-            ∙ due-next (refuse WalkSize (not (walkWithin r c))) later (ap not (sym f) ∙ l)))
+      pub small-enough : not s ≡ false → {k : Checked} → k ≡ checkOf r c d g → k ≡ walkCheck r c d g
+      unfolding walkCheck checkOf checkOfCells
+      small-enough i q = q ∙ ap (answered r c d) (sym (small-due r c e h f i later))
+
+      pub first-too-large : not s ≡ true → (room : ℕ) → firstRefusal r c d g room ≡ some WalkSize
+      unfolding firstRefusal
+      first-too-large i room = large-due r c e h f i (later ++ (roomTest r c room ∷ []))
+
+      pub first-rounds : not s ≡ false → {old new : List ℕ} {a : Answer}
+          → Answers (roundRefusal r c d g (length old)) (written (firstRounding r c d g) old) old a new
+          → Answers (firstRefusal r c d g (length old)) (written (firstRounding r c d g) old) old a new
+      unfolding firstRefusal roundRefusal
+      first-rounds i {old} q = rw (small-due r c e h f i (later ++ (roomTest r c (length old) ∷ []))) q
 
   -- where nothing is due, the table is accepted, and small
   module _ (h : due (walkTests r c d g) ≡ none) where
     pub nothing-table : tableRefusal r c d g ≡ none
     unfolding tableRefusal
     nothing-table =
-        due-next (sizeTest r c) later (not-here (sizeTest r c) (refuse WalkSize (not (walkWithin r c)) ∷ later) h)
-        ∙ not-later (refuse WalkSize (not (walkWithin r c))) later (not-later (sizeTest r c) (refuse WalkSize (not (walkWithin r c)) ∷ later) h)
+        due-next (sizeTest r c) later (not-here (sizeTest r c) (walkSizeTest r c ∷ later) h)
+        ∙ not-later (walkSizeTest r c) later (not-later (sizeTest r c) (walkSizeTest r c ∷ later) h)
 
     within : walkWithin r c ≡ true
-    within = not-false _ (not-here (refuse WalkSize (not (walkWithin r c))) later (not-later (sizeTest r c) (refuse WalkSize (not (walkWithin r c)) ∷ later) h))
+    within = not-false _ (not-here (walkSizeTest r c) later (not-later (sizeTest r c) (walkSizeTest r c ∷ later) h))
 
     pub nothing-small : Small r c
     nothing-small =
@@ -90,10 +113,6 @@ module _ (r c d : ℕ) (g : List ℕ) {k : Checked} (e : k ≡ walkCheck r c d g
   unfolding walkCheck
   not-taken {x} h = answered-refused r c d (due (walkTests r c d g)) x (sym h ∙ e)
 
-  pub first-refused : (room : ℕ) {x : Refusal} → k ≡ checked.Refused x → firstRefusal r c d g room ≡ some x
-  unfolding firstRefusal
-  first-refused room {x} h = due-first (walkTests r c d g) (roomTest r c room ∷ []) x (not-taken h)
-
   pub next-refused : (n : List ℕ) (room : ℕ) {x : Refusal} → k ≡ checked.Refused x → nextRefusal r c d g n room ≡ some x
   unfolding nextRefusal
   next-refused n room {x} h = due-first (walkTests r c d g) (arrayTests r c d g n room) x (not-taken h)
@@ -112,19 +131,6 @@ module _ (r c d : ℕ) (g : List ℕ) {k : Checked} (e : k ≡ walkCheck r c d g
 
     pub is-small : Small (t .rows) (t .columns)
     is-small = rw sizes (nothing-small r c d g nothing)
-
-    -- the first call
-    module _ (room : ℕ) where
-      pub first-short : room < t .rows * t .columns → firstRefusal r c d g room ≡ some Buffer
-      unfolding firstRefusal due
-      first-short l = let m : room < r * c = rw sizes at l in due-second (walkTests r c d g) (roomTest r c room ∷ []) nothing ∙ simp (lt-ltb room (r * c) m)
-
-      pub first-enough : t .rows * t .columns ≤ room → firstRefusal r c d g room ≡ none
-      unfolding firstRefusal due
-      first-enough l = let m : r * c ≤ room = rw sizes at l in due-second (walkTests r c d g) (roomTest r c room ∷ []) nothing ∙ simp (le-ltb room (r * c) m)
-
-    pub first-done : (old new : List ℕ) → new ≡ written (firstRounding (t .rows) (t .columns) (t .denominator) g) old → new ≡ written (firstRounding r c d g) old
-    first-done old new f = rw sizes at f
 
     -- the second
     module _ (n : List ℕ) {b : Bool} (f : b ≡ isRounding (twoWays (t .rows) (t .columns)) (t .denominator) g n) where
@@ -192,8 +198,8 @@ module _ (r c d : ℕ) (g : List ℕ) (h : tableRefusal r c d g ≡ none) (hr : 
   nothing-due : due (walkTests r c d g) ≡ none
   unfolding tableRefusal
   nothing-due =
-      due-next (sizeTest r c) (refuse WalkSize (not (walkWithin r c)) ∷ later r c d g) size-fits
-      ∙ due-next (refuse WalkSize (not (walkWithin r c))) (later r c d g) (simp (le-leb r 4 hr, le-leb c 4 hc))
+      due-next (sizeTest r c) (walkSizeTest r c ∷ later r c d g) size-fits
+      ∙ due-next (walkSizeTest r c) (later r c d g) (simp (le-leb r 4 hr, le-leb c 4 hc))
       ∙ not-later (sizeTest r c) (later r c d g) h
 
   pub nothing-first : (room : ℕ) → r * c ≤ room → firstRefusal r c d g room ≡ none
@@ -212,8 +218,8 @@ module _ (r c d : ℕ) (g : List ℕ) (hr : r ≤ 4) (hc : c ≤ 4) (z : BelowZe
   unfolding tableRefusal
   four =
       let size = not-here (sizeTest r c) (denominatorTest d ∷ countTest (length g) (r * c) ∷ []) (z .sizes) in
-      due-next (sizeTest r c) (refuse WalkSize (not (walkWithin r c)) ∷ later r c d g) size
-      ∙ due-next (refuse WalkSize (not (walkWithin r c))) (later r c d g) (simp (le-leb r 4 hr, le-leb c 4 hc))
+      due-next (sizeTest r c) (walkSizeTest r c ∷ later r c d g) size
+      ∙ due-next (walkSizeTest r c) (later r c d g) (simp (le-leb r 4 hr, le-leb c 4 hc))
       ∙ sym (due-next (sizeTest r c) (later r c d g) size) ∙ below-zero r c d g z
 
   pub first-below-zero : (room : ℕ) → firstRefusal r c d g room ≡ some LargeCell

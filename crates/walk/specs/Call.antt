@@ -22,10 +22,14 @@ maxSide = 4
 abbrev pub walkWithin : ℕ → ℕ → Bool
 walkWithin r c = leb r maxSide && leb c maxSide
 
--- the refusals of the table: 1; 15, r or c above 4; 2, 3 and 4
+-- 15: r or c above 4
+abbrev pub walkSizeTest : ℕ → ℕ → Test
+walkSizeTest r c = refuse WalkSize (not (walkWithin r c))
+
+-- the refusals of the table: 1, 15, 2, 3 and 4
 abbrev pub walkTests : ℕ → ℕ → ℕ → List ℕ → List Test
 walkTests r c d g =
-    sizeTest r c ∷ refuse WalkSize (not (walkWithin r c)) ∷ denominatorTest d ∷ countTest (length g) (r * c) ∷ refuse LargeCell (not (cellsWithin d g)) ∷ []
+    sizeTest r c ∷ walkSizeTest r c ∷ denominatorTest d ∷ countTest (length g) (r * c) ∷ refuse LargeCell (not (cellsWithin d g)) ∷ []
 
 -- 7: a buffer of `room` counts is shorter than an array
 abbrev pub roomTest : ℕ → ℕ → ℕ → Test

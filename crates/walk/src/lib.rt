@@ -12,7 +12,7 @@ use is_rounding::is_rounding;
 use next_rounding::write_next;
 use refusals::Answer;
 use refusals::Refusal;
-use rounding::write_rounding;
+use rounding::round;
 use table::Checked;
 use table::check::check;
 use table::check::size_within;
@@ -55,17 +55,13 @@ pub fn first(rows: u32, columns: u32, denominator: u32, cells: &[u32], counts: &
     ensures { λ r. ⌜ Answers (firstRefusal rows columns denominator (now (cells .entry)) (length (now (counts .entry))))
         (written (firstRounding rows columns denominator (now (cells .entry))) (now (counts .entry))) (now (counts .entry)) r (now (counts .exit)) ⌝ }
 {
-    let checked = check_small(rows, columns, denominator, cells);
-    match checked {
-        Checked::Refused(x) => Answer::Refused(x),
-        Checked::Accepted(t) => {
-            if counts.len() < t.rows * t.columns {
-                return Answer::Refused(Refusal::Buffer);
-            }
-            write_rounding(t, cells, counts);
-            Answer::Done
-        }
+    if !size_within(rows, columns) {
+        return Answer::Refused(Refusal::Size);
     }
+    if !walk_within(rows, columns) {
+        return Answer::Refused(Refusal::WalkSize);
+    }
+    round(rows, columns, denominator, cells, counts)
 }
 
 // Writes the controlled rounding after the one handed in, says that this was the last, or returns the first refusal that applies.

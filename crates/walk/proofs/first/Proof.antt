@@ -1,46 +1,32 @@
-use native.Mathlib.Omega.{arith}
-use Rattle.table.proofs.Totals.{small-product}
-use Rattle.refusals.proofs.Dues.{refused-so, accepted-so}
-use Rattle.walk.proofs.Calls.{is-table, first-refused, first-short, first-enough, first-done}
+use Rattle.refusals.proofs.Dues.{refused-so}
+use Rattle.walk.proofs.Calls.{first-bad-size, first-too-large, first-rounds}
 use borrow.Author.Needs.{needs}
 use Rattle.walk.proofs.first.Statement.{statement}
 use Rattle.walk.proofs.first.Tie as tie
 
-mul-if1 : tie.Need-mul-if1
-mul-if1 c =
-    let m = c .before .before in
-    let t = is-table _ _ _ _ (m .before .before .check-small .ensures) (m .checked2 .given .1) in
-    small-product (t .shape .rows) (t .shape .columns)
-
 returns : tie.Need-returns
-returns c =
-    let m = c .before .before .before in
-    refused-so (first-short _ _ _ _ (m .before .before .check-small .ensures) (m .checked2 .given .1) _ (omega arith))
-
-write-rounding-requires : tie.Need-write-rounding-requires
-write-rounding-requires c κs =
-    let m = c .before .before .before .before in
-    record { table = is-table _ _ _ _ (m .before .before .check-small .ensures) (m .checked2 .given .1); room = c .before .if1 .left }
+returns c = refused-so (first-bad-size _ _ _ _ (c .before .size-within .ensures) (c .if1 .taken) _)
 
 returns-2 : tie.Need-returns-2
-returns-2 c = refused-so (first-refused _ _ _ _ (c .before .before .before .check-small .ensures) _ (c .before .checked .given .1))
+returns-2 c =
+    let w = c .before in
+    refused-so (first-too-large _ _ _ _ (w .before .before .size-within .ensures) (w .before .if1 .left) (w .walk-within .ensures) (c .if2 .taken) _)
 
 returns-3 : tie.Need-returns-3
 returns-3 c =
-    let w = c .before .before in
-    let m = w .before .before .before .before .before in
-    accepted-so (first-enough _ _ _ _ (m .before .before .check-small .ensures) (m .checked2 .given .1) _ (omega arith)) (first-done _ _ _ _ (m .before .before .check-small .ensures) (m .checked2 .given .1) _ _ (w .write-rounding .ensures))
+    let r = c .before .before in
+    let small = r .before .before in
+    let w = small .before in
+    first-rounds _ _ _ _ (w .before .before .size-within .ensures) (w .before .if1 .left) (w .walk-within .ensures) (small .if2 .left) (r .round .ensures)
 
 pub first-spec : {M : Type 1} → statement M
 first-spec =
     tie.close
     (tie.spec
     (λ c κs. search needs)
-    (λ c. search needs)
-    (λ c. search needs)
-    mul-if1
     returns
-    write-rounding-requires
+    (λ c κs. search needs)
     returns-2
+    (λ c κs. search needs)
     (λ c. search needs)
     returns-3)
