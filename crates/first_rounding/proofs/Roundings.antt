@@ -51,7 +51,7 @@ module _ {r c : ℕ} {g : List ℕ} (s : Shape r c g) (w : ℕ) (n : List ℕ) w
       let at = rounding-grid h p q (omega (arith, s .rows)) (omega (arith, s .columns)) in
       rw (cell-at s p q hp hq, cell-at (shape-of s n (rounding-length h)) p q hp hq) at at
 
-  pub in-order : isRounding (twoWays r c) w g n ≡ true → (i : ℕ) → i < r * c → roundsTo w (getD (inOrder 0 r c g) i 0) (getD (inOrder 0 r c n) i 0) ≡ true
+  in-order : isRounding (twoWays r c) w g n ≡ true → (i : ℕ) → i < r * c → roundsTo w (getD (inOrder 0 r c g) i 0) (getD (inOrder 0 r c n) i 0) ≡ true
   in-order h i l = rw (in-order-at 0 r c g i l, in-order-at 0 r c n i l)
       (at-cell h (nthRow r c i) (nthColumn r c i) (nth-row (s .some-rows) (s .some-columns) i l) (nth-column (s .some-rows) (s .some-columns) i l))
 

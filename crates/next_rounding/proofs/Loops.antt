@@ -37,7 +37,7 @@ module _ {r c : ℕ} (s : Small r c) where
     column-inside : nthColumn r c i < c
     column-inside = nth-column (s .some-rows) (s .some-columns) i h
 
-    pub nth-inside : nthPlace r c i < r * c
+    nth-inside : nthPlace r c i < r * c
     nth-inside = digits-lt row-inside column-inside
 
     -- the cell at a place has the rank of that place
@@ -60,10 +60,10 @@ module _ {r c : ℕ} (s : Small r c) {cells i : ℕ} (e : cells ≡ r * c) (h : 
 
 -- the place of the next cell
 module _ {r c : ℕ} {places low : List ℕ} (t : Lows r c places low) {cells i : ℕ} (e : cells ≡ r * c) (h : i < cells) where
-  pub next-is : getD places i 0 ≡ nthPlace r c i
+  next-is : getD places i 0 ≡ nthPlace r c i
   next-is = t .places-are .are i (omega arith)
 
-  pub next-inside : getD places i 0 < r * c
+  next-inside : getD places i 0 < r * c
   next-inside = let l : i < r * c = omega arith in omega (arith, next-is, nth-inside (t .small) l)
 
   pub next-small : getD places i 0 < 16
@@ -111,10 +111,10 @@ module _ {b : ℕ → ℕ} {i x : ℕ} (v : ValueTo b i x) (h : i < 16) where
   double-fits = record { fits = omega (arith, v .small, power-small i h) }
 
   module _ {y : ℕ} (e : y ≡ b i) (l : b i ≤ 1) where
-    pub value-fits : Fits w32 (2 * x + y)
+    value-fits : Fits w32 (2 * x + y)
     value-fits = record { fits = omega (arith, v .small, power-small i h) }
 
-    pub value-next : ValueTo b (i + 1) (2 * x + y)
+    value-next : ValueTo b (i + 1) (2 * x + y)
     value-next = record { is = omega (arith, v .is, value-more i b); small = omega (arith, v .small, power-more i) }
 
 -- the digit of the next cell

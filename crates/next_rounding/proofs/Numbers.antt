@@ -40,7 +40,7 @@ module _ {r c : ℕ} {g : List ℕ} (s : Shape r c g) where
 
   -- the number of the array with a number
   module _ (low : List ℕ) where
-    pub numbered-at : (x p : ℕ) → p < r * c → getD (numbered r c low x) p 0 ≡ getD low p 0 + digit (r * c) x (rank r c (p / c) (p % c))
+    numbered-at : (x p : ℕ) → p < r * c → getD (numbered r c low x) p 0 ≡ getD low p 0 + digit (r * c) x (rank r c (p / c) (p % c))
     unfolding numbered
     numbered-at x p h = getD-tabulate (r * c) _ p 0 h
 

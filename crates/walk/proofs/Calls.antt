@@ -81,7 +81,7 @@ module _ (r c d : ℕ) (g : List ℕ) where
 
   -- where nothing is due, the table is accepted, and small
   module _ (h : due (walkTests r c d g) ≡ none) where
-    pub nothing-table : tableRefusal r c d g ≡ none
+    nothing-table : tableRefusal r c d g ≡ none
     unfolding tableRefusal
     nothing-table =
         due-next (sizeTest r c) later (not-here (sizeTest r c) (walkSizeTest r c ∷ later) h)
@@ -90,7 +90,7 @@ module _ (r c d : ℕ) (g : List ℕ) where
     within : walkWithin r c ≡ true
     within = not-false _ (not-here (walkSizeTest r c) later (not-later (sizeTest r c) (walkSizeTest r c ∷ later) h))
 
-    pub nothing-small : Small r c
+    nothing-small : Small r c
     nothing-small =
         let s = passed-all r c d g nothing-table .shape in
         record {
