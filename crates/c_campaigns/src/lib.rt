@@ -9,7 +9,7 @@ ghost use Rattle.campaign_draw.specs.Draw.{ask, made, Draws};
 
 // The part of a campaign record that is no buffer: the count of numbers taken, and the rounds completed.
 #[repr(C)]
-#[derive(Drop)]
+#[derive(Clone, Copy)]
 pub struct Record {
     pub taken: u32,
     pub rounds: u16,

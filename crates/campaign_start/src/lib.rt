@@ -15,7 +15,7 @@ use refusals::Answer;
 pub mod room;
 
 // What a start or a draw answers, and the count of numbers taken and the rounds completed as it leaves them.
-#[derive(Drop)]
+#[derive(Clone, Copy)]
 pub struct Step {
     pub answer: Answer,
     pub taken: u32,

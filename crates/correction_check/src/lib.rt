@@ -42,7 +42,7 @@ fn cell_within(cell: i32, bound: u64) -> bool
 
 // Whether each cell is from -1000 to 1000 times the denominator.
 fn cells_within(denominator: u32, cells: &[i32]) -> bool
-    requires* { do ⌜ denominator ≤ (← ⟦Table::MAX_DENOMINATOR⟧) ⌝ }
+    requires { denominator ≤ Table.MAX_DENOMINATOR }
     ensures { result ≡ cells_within denominator cells.now }
 {
     let bound = wide(Table::MAX_EXPECTED * denominator);

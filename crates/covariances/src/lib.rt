@@ -11,7 +11,7 @@ mod sums;
 pub const LIFT: u64 = 4294836225000000;
 
 // The smallest and the largest of some numbers.
-#[derive(Drop)]
+#[derive(Clone, Copy)]
 pub struct Extremes {
     pub low: u64,
     pub high: u64,

@@ -9,7 +9,7 @@ ghost use Rattle.division.specs.Examples.{cases, divided};
 use base::convert::{i64_to_u64, u64_to_i64};
 
 // An entry over a weight: rounded down, and what is left over, from 0 to below the weight.
-#[derive(Drop)]
+#[derive(Clone, Copy)]
 pub struct Divided {
     pub whole: i64,
     pub rest: u64,

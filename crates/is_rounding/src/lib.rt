@@ -14,7 +14,7 @@ use table::sums::sum;
 use table::whole::divide;
 
 // Entries of one kind: `count` of them, entry l the sum over `number` places from l * `stride` on, `step` apart.
-#[derive(Drop)]
+#[derive(Clone, Copy)]
 pub struct Lines {
     pub count: usize,
     pub stride: usize,

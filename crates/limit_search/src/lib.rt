@@ -7,7 +7,7 @@ ghost use Rattle.grid.specs.Clauses.{grid_order};
 ghost use Rattle.limit_search.specs.Clauses.{block, InGrid, block_places, holds, found_or, Sizes};
 
 // What a search of a block finds: a place of the grid.
-#[derive(Drop)]
+#[derive(Clone, Copy)]
 pub enum Found {
     At(usize),
     Nowhere,

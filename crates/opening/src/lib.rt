@@ -11,7 +11,7 @@ use form::Sizes;
 use refusals::Refusal;
 
 // What opening some bytes finds.
-#[derive(Drop)]
+#[derive(Clone, Copy)]
 pub enum Opened {
     Plan(Sizes),
     Refused(Refusal),

@@ -14,7 +14,7 @@ pub const MAX_TEXT: usize = 4096;
 pub const MAX_NUMBER: u64 = 4294967295;
 
 // What a text is parsed to: whether it is accepted, how many numbers it has, and the numbers, with zeros after them. 4,096 bytes hold at most 2,048.
-#[derive(Drop)]
+#[derive(Clone, Copy)]
 pub struct Parsed {
     pub accepted: bool,
     pub count: usize,

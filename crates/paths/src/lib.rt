@@ -7,7 +7,7 @@ ghost use Rattle.paths.specs.Clauses.{SearchReady, Nowhere, SearchFound, Trail, 
 use sets::{meet, minus, pick, single, some, union_of, with, without};
 
 // What a search finds: a column and its level, or column 13.
-#[derive(Drop)]
+#[derive(Clone, Copy)]
 pub struct Found {
     pub column: usize,
     pub level: usize,

@@ -21,7 +21,7 @@ use writing::write;
 mod gather;
 
 // What planning a table answers: the length of the stored plan, or why there is none.
-#[derive(Drop)]
+#[derive(Clone, Copy)]
 pub enum Planned {
     Length(u32),
     Refused(Refusal),

@@ -7,7 +7,7 @@ use table::Checked;
 use table::check::check;
 
 // Two accepted tables of one size: the number of their cells, and their denominators.
-#[derive(Drop)]
+#[derive(Clone, Copy)]
 pub struct Pair {
     pub cells: usize,
     pub first: u64,
@@ -15,7 +15,7 @@ pub struct Pair {
 }
 
 // What the check of two tables finds.
-#[derive(Drop)]
+#[derive(Clone, Copy)]
 pub enum Parts {
     Accepted(Pair),
     Refused(Refusal),

@@ -21,7 +21,7 @@ mod cells;
 mod check;
 
 // How two tables are pooled: the number of their cells, the pooled denominator, and by what the cells of the first and of the second are multiplied.
-#[derive(Drop)]
+#[derive(Clone, Copy)]
 pub struct Scale {
     pub cells: usize,
     pub denominator: u64,

@@ -16,7 +16,7 @@ use table::check::check;
 mod find;
 
 // An entry of a table; rows and columns are counted from 1.
-#[derive(Drop)]
+#[derive(Clone, Copy)]
 pub enum Entry {
     // row, column
     Cell(u32, u32),
@@ -26,7 +26,7 @@ pub enum Entry {
 }
 
 // What asking for the reason of an array's weight answers: the entry that set it, with the way it was rounded, or why there is no reason.
-#[derive(Drop)]
+#[derive(Clone, Copy)]
 pub enum Reply {
     Down(Entry),
     Up(Entry),

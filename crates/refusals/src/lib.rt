@@ -10,7 +10,7 @@ ghost use Rattle.refusals.specs.Due.{Test, due, none_applies, FirstDue};
 ghost use Rattle.refusals.specs.Clauses.{lower_of};
 
 // Why a call refuses its input, in the order of the refusals' numbers.
-#[derive(Drop)]
+#[derive(Clone, Copy)]
 pub enum Refusal {
     // rows or columns not from 1 to 12
     Size,
@@ -47,7 +47,7 @@ pub enum Refusal {
 }
 
 // What a call answers that returns nothing but its success.
-#[derive(Drop)]
+#[derive(Clone, Copy)]
 pub enum Answer {
     Done,
     Refused(Refusal),

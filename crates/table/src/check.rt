@@ -17,7 +17,7 @@ pub fn up_to(bound: u32, n: u32) -> bool
 
 // Whether each cell is at most 1000 times the denominator.
 pub fn cells_within(denominator: u32, cells: &[u32]) -> bool
-    requires* { do ⌜ denominator ≤ (← ⟦Table::MAX_DENOMINATOR⟧) ⌝ }
+    requires { denominator ≤ Table.MAX_DENOMINATOR }
     ensures { result ≡ cells_within denominator cells.now }
 {
     let bound = Table::MAX_EXPECTED * denominator;

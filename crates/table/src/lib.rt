@@ -15,7 +15,7 @@ pub mod whole;
 use refusals::Refusal;
 
 // The sizes of an accepted table.
-#[derive(Drop)]
+#[derive(Clone, Copy)]
 pub struct Table {
     pub rows: usize,
     pub columns: usize,
@@ -39,7 +39,7 @@ impl Table {
 }
 
 // What the check of a table finds.
-#[derive(Drop)]
+#[derive(Clone, Copy)]
 pub enum Checked {
     Accepted(Table),
     Refused(Refusal),
@@ -47,12 +47,12 @@ pub enum Checked {
 
 // The constants of the code are the bounds of the definitions.
 pub fn bounds()
-    ensures* rows { do ⌜ (← (⟦Table::MAX_ROWS⟧).entry) ≡ max_rows ⌝ }
-    ensures* columns { do ⌜ (← (⟦Table::MAX_COLUMNS⟧).entry) ≡ max_columns ⌝ }
-    ensures* arrays { do ⌜ (← (⟦Table::MAX_ARRAYS⟧).entry) ≡ max_arrays ⌝ }
-    ensures* denominator { do ⌜ (← (⟦Table::MAX_DENOMINATOR⟧).entry) ≡ max_denominator ⌝ }
-    ensures* expected { do ⌜ (← (⟦Table::MAX_EXPECTED⟧).entry) ≡ max_expected ⌝ }
-    ensures* cells { do ⌜ (← (⟦Table::MAX_CELLS⟧).entry) ≡ max_cells ⌝ }
+    ensures rows { Table.MAX_ROWS ≡ max_rows }
+    ensures columns { Table.MAX_COLUMNS ≡ max_columns }
+    ensures arrays { Table.MAX_ARRAYS ≡ max_arrays }
+    ensures denominator { Table.MAX_DENOMINATOR ≡ max_denominator }
+    ensures expected { Table.MAX_EXPECTED ≡ max_expected }
+    ensures cells { Table.MAX_CELLS ≡ max_cells }
 {}
 
 // A cell below zero is 4, whatever the table, where none of 1 to 3 applies. And the literal cases are as stated: refusals 1 to 4 and each two of them at once,

@@ -4,7 +4,7 @@ ghost use Rattle.table.specs.Clauses.{Dividable, Divides};
 use base::convert::{i64_to_u64, u64_to_i64};
 
 // An entry over a weight: rounded down, what is left over, and 1 where that is not 0, else 0.
-#[derive(Drop)]
+#[derive(Clone, Copy)]
 pub struct Divided {
     pub whole: u64,
     pub rest: u64,

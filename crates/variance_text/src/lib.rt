@@ -14,7 +14,7 @@ pub mod print;
 pub const MAX_LINE: usize = 87;
 
 // How many bytes were written of a plan's text, and whether the run goes on after it.
-#[derive(Drop)]
+#[derive(Clone, Copy)]
 pub struct Printed {
     pub written: usize,
     pub go_on: bool,

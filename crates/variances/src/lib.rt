@@ -17,7 +17,7 @@ pub mod measure;
 
 // The three numerators of a plan: the sum of all cell variances, and the smallest and the largest covariance of two different cells, these two lifted
 // by `covariances::LIFT`.
-#[derive(Drop)]
+#[derive(Clone, Copy)]
 pub struct Numerators {
     pub variances: u64,
     pub smallest: u64,

@@ -7,7 +7,7 @@ use form::layout::{amount, offset};
 use table::Table;
 
 // What a reader finds.
-#[derive(Drop)]
+#[derive(Clone, Copy)]
 pub enum Reading {
     Value(u32),
     Missing,

@@ -15,7 +15,7 @@ use table::Table;
 pub mod find;
 
 // What opening finds, in plain numbers: 0 or the number of the refusal, and the sizes, 0 where there is a refusal.
-#[derive(Drop)]
+#[derive(Clone, Copy)]
 pub struct Summary {
     pub refusal: u32,
     pub rows: usize,
@@ -25,7 +25,7 @@ pub struct Summary {
 }
 
 // A view over the lent bytes, with what opening them finds.
-#[derive(Drop)]
+#[derive(Clone, Copy)]
 pub struct View<'a> {
     pub bytes: &'a [u8],
     pub found: Summary,

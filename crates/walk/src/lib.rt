@@ -20,7 +20,7 @@ use table::check::{check, size_within};
 pub const MAX_SIDE: u32 = 4;
 
 // What the second call answers: the next array was written, the array handed in was the last, or why the call was refused.
-#[derive(Drop)]
+#[derive(Clone, Copy)]
 pub enum Step {
     Next,
     Last,

@@ -1,17 +1,12 @@
-use borrow.Author.Rules.{rules}
-use Rattle.sets.proofs.single.Statement.{statement}
-use Rattle.sets.proofs.single.Tie as tie
 use native.Mathlib.Omega.{arith}
 use mathlib.Core.Path.{◌≡◌}
 use Prim.Native.Nat.{ℕ, ◌*◌, ◌%◌, ◌^◌, ◌<◌, ◌≤◌}
 use lib.Pow.{pow_mono}
 use Rattle.sets.proofs.Members.{single_is}
+use Rattle.sets.proofs.single.Goals as goal
 
 small : (i : ℕ) → i < 13 → 1 * 2 ^ i % 4294967296 ≡ 2 ^ i
 small i h = let l : 2 ^ i ≤ 2 ^ 12 = pow_mono {j = 12} (omega arith) in omega arith
 
-returns : tie.Need-returns
+pub returns : goal.returns
 returns c = let e : 1 * 2 ^ c.args.i % 4294967296 ≡ 2 ^ c.args.i = small c.args.i c.requires in rw e (single_is c.args.i c.requires)
-
-pub single-spec : {M : Type 1} → statement M
-single-spec = tie.close (tie.spec (λ c. search rules) (λ c. search rules) returns)
