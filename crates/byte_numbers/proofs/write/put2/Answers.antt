@@ -1,0 +1,6 @@
+use Rattle.byte_numbers.proofs.Puts.{put_two}
+use borrow.Author.Rules.{rules}
+use Rattle.byte_numbers.proofs.write.put2.Goals as goal
+
+pub returns : goal.returns
+returns c = search (rules, put_two)
