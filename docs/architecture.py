@@ -27,6 +27,7 @@ def read(text):
                 name, _, words = comment.partition(": ")
                 groups.append((name, words, []))
             crate, _, needed = line.partition(":")
+            crate = crate.split()[0]
             groups[-1][2].append(crate)
             needs[crate] = needed.split()
         comment = None

@@ -31,7 +31,7 @@ needed() {
 sources() {
     needed | while IFS= read -r line; do
         printf '%s\n' "$line"
-        find "crates/${line%%:*}" \( -name '*.rt' -o -name '*.antt' \) -exec sha256sum {} + | LC_ALL=C sort
+        find "crates/${line%%:*}" -name out -prune -o \( -name '*.rt' -o -name '*.antt' \) -exec sha256sum {} + | LC_ALL=C sort
     done | sha256sum
 }
 
@@ -45,7 +45,7 @@ lock() { # FILE WHAT
 
 # Proves and builds the program, unless another caller just has. File 8 is locked against the same script, file 9 against all of them.
 build() {
-    local all before status start=$SECONDS count=0 line
+    local all before status start=$SECONDS count=0 line name=
     lock 8 "another $script builds the program"
     if built; then return; fi
     lock 9 'another script builds its program'
@@ -53,14 +53,20 @@ build() {
     all=$(needed | wc -l)
     before=$(sources)
     say "proving and building the program, $all crates; some minutes the first time"
-    rt check "$crate" < /dev/null 2>&1 | tee "$log" | while IFS= read -r line; do
-        if [[ $line =~ ^rt:\ ([A-Za-z0-9_]+)\ proved\ \( ]]; then say "$((++count)) of $all proved, $((SECONDS - start)) s: ${BASH_REMATCH[1]}"; fi
+    # rt runs what it has built, here with no input and unseen; what rt itself says comes on standard error
+    (cd "crates/$crate" && rt run 2>&1 < /dev/null > /dev/null) | tee "$log" | while IFS= read -r line; do
+        if [[ $line =~ ^crate\ ([A-Za-z0-9_]+):\  ]]; then name=${BASH_REMATCH[1]}; fi
+        if [[ $line == logic=proved* ]] && [ -n "$name" ]; then
+            say "$((++count)) of $all proved, $((SECONDS - start)) s: $name"
+            name=
+        fi
     done
     status=${PIPESTATUS[0]}
-    if [ "$status" -ne 0 ] || [ ! -x "$program" ]; then
+    if [ "$status" -ne 0 ] || [ ! -x "crates/$crate/out/$crate" ]; then
         cat "$log" >&2
-        fail "the program is not built (rt check $crate ended with status $status)"
+        fail "the program is not built (rt run in crates/$crate ended with status $status)"
     fi
+    { mkdir -p target/bin && cp "crates/$crate/out/$crate" "$program.new" && mv "$program.new" "$program"; } || fail "$PWD/$program cannot be written"
     { printf '%s\n' "$before"; sha256sum < "$program"; } > "$stamp"
 }
 
