@@ -1,6 +1,6 @@
 -- Some entries, kind by kind, and the loops over them. Assumes nothing.
 use mathlib.Core.Path.{◌≡◌, refl, sym, ap, ◌∙◌}
-use mathlib.Core.Bool.{Bool, true, false, cond, not}
+use mathlib.Core.Bool.{Bool, true, false, cond}
 use mathlib.Core.List.{List, []}
 use Prim.Native.Nat.{ℕ, ◌+◌, ◌-◌, ◌*◌, ◌<◌, ◌≤◌}
 use native.Mathlib.Nat.{zero-add, add-zero, mul-one, mul-le-mul, mul-le-mul_right, le_trans, div-le_of_le-mul}
@@ -9,7 +9,7 @@ use lib.ListN.{length, get_or, set}
 use lib.Dec.{eqb}
 use mir.Val.{Fits}
 use mir.Syntax.{w32, w64}
-use borrow.Author.Tests.{le-leb, lt-leb, not-true, not-false}
+use borrow.Author.Tests.{le-leb, lt-leb}
 use Rattle.base.specs.Lists.{every}
 use Rattle.base.specs.Clauses.{Filled}
 use Rattle.base.proofs.SumLoops.{Summed, summed_none, summed_more, summed_all}
@@ -244,20 +244,20 @@ module _ {entries : List (List ℕ)} {n low high : List ℕ} {from : ℕ} (so_fa
       every_ext k.count _ _ (λ l i. ap (λ (places : List ℕ). between (get_or low (from + l) 0) (get_or high (from + l) 0) (total n places)) (s.at l i)) ∙ sym e in
       every_add from k.count (entry_between entries n low high) ∙ simp (so_far.all, kind)
 
-  pub kind_passes : not x ≡ false → BetweenTo entries n low high (from + k.count)
-  kind_passes h = record { all = kind_is ∙ not-false x h }
+  pub kind_passes : x ≡ true → BetweenTo entries n low high (from + k.count)
+  kind_passes h = record { all = kind_is ∙ h }
 
-  pub kind_fails : not x ≡ true → false ≡ entries_between entries n low high
+  pub kind_fails : x ≡ false → false ≡ entries_between entries n low high
   unfolding entries_between
   kind_fails h =
       let later = length entries - (from + k.count) in
       let whole : from + k.count + later ≡ length entries = omega (arith, s.inside) in
       sym (ap (λ (m : ℕ). every m (entry_between entries n low high)) (sym whole)
-      ∙ every_add (from + k.count) later (entry_between entries n low high) ∙ simp (kind_is ∙ not-true x h))
+      ∙ every_add (from + k.count) later (entry_between entries n low high) ∙ simp (kind_is ∙ h))
 
   pub kind_last : length entries ≡ from + k.count → x ≡ entries_between entries n low high
   unfolding entries_between
   kind_last all = sym (ap (λ (m : ℕ). every m (entry_between entries n low high)) all ∙ kind_is)
 
-pub cells_pass : (r c : ℕ) (n low high : List ℕ) {x : Bool} → x ≡ lines_between n low high (cell_lines (r * c)) 0 → not x ≡ false → BetweenTo (entry_places r c) n low high (r * c)
+pub cells_pass : (r c : ℕ) (n low high : List ℕ) {x : Bool} → x ≡ lines_between n low high (cell_lines (r * c)) 0 → x ≡ true → BetweenTo (entry_places r c) n low high (r * c)
 cells_pass r c n low high e h = rw (zero-add (r * c)) at (kind_passes (between_none (entry_places r c) n low high) (stands_cells r c) e h)

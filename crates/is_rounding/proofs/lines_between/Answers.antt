@@ -1,0 +1,18 @@
+use native.Mathlib.Omega.{arith}
+use Rattle.is_rounding.proofs.EntryLines.{outside_none, outside_more, outside_fits, outside_all}
+use borrow.Author.Rules.{rules}
+use Rattle.is_rounding.proofs.lines_between.Goals as goal
+
+pub loop-l-init : goal.loop-l-init
+loop-l-init c = search (rules, outside_none)
+
+pub overflow_add-failed : goal.overflow_add-failed
+overflow_add-failed c = outside_fits c.loop-l.invariant.2 _ _ _ c.outside-failed.ensures (omega (arith, c.requires.placed.few))
+
+pub loop-l-preserved : goal.loop-l-preserved
+loop-l-preserved c =
+    let loop = c.loop-l.invariant in
+    (omega arith, loop.1, outside_more loop.2 c.count_sum-x.ensures c.outside-failed.ensures)
+
+pub returns : goal.returns
+returns c = search (rules, outside_all)
