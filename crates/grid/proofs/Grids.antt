@@ -1,4 +1,4 @@
--- The entries, in their order, are what stands at the places of `gridOrder`. Assumes nothing.
+-- The entries, in their order, are what stands at the places of `grid_order`. Assumes nothing.
 use mathlib.Core.Path.{◌≡◌, sym, ap, ◌∙◌}
 use mathlib.Core.List.{List, map, map-append}
 use Prim.Native.Nat.{ℕ, ◌*◌, ◌/◌, ◌%◌, ◌<◌}
@@ -31,7 +31,7 @@ module _ {r c : ℕ} {g : List ℕ} (s : Shape r c g) where
   column : (j : ℕ) → j < c → total g (column_places r c j) ≡ value (grid_place 12 j)
   column j h = at 12 j (omega arith) (omega (arith, s.columns)) (column_places r c j) (grid_column r c 12 j (omega arith) (omega (arith, s.columns)) h)
 
-  -- the entries in their order are what stands at the places of `gridOrder`
+  -- the entries in their order are what stands at the places of `grid_order`
   pub order_entries : entries r c g ≡ map (λ k. get_or (grid_of r c g) k 0) (grid_order r c)
   unfolding entries entry_places grid_order
   order_entries =

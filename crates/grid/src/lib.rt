@@ -51,7 +51,7 @@ pub fn entries(t: Table, cells: &[u32]) -> [u64; 169]
     e
 }
 
-// What holds of every accepted table: the grid has its entries, in their order, at the places of `gridOrder`.
+// What holds of every accepted table: the grid has its entries, in their order, at the places of `grid_order`.
 pub fn in_order()
     ensures { (r c d : ℕ) (g : List ℕ) (t : Table) → Checked.Accepted t ≡ check_of r c d g
         → entries r c g ≡ map (λ k. get_or (grid_of r c g) k 0) (grid_order r c) }
