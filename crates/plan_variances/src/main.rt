@@ -6,39 +6,54 @@ ghost use Rattle.form.specs.Form.{max_length};
 ghost use Rattle.variance_text.specs.Read.{HasRead};
 
 use form::MAX_LENGTH;
-use libc::{STDIN_FILENO, STDOUT_FILENO};
+use std::io::{Read, Stdin};
 use variance_text::MAX_LINE;
 use variance_text::head::plan_length;
 use variance_text::print::print_variances;
 
+// Reads until the buffer is full, the input ends or a read fails, and returns how many bytes came.
+fn read_full(mut input: Stdin, buffer: &mut [u8]) -> usize
+    ensures { result ≤ length buffer.new }
+{
+    let mut done = 0;
+    while done < buffer.len() {
+        match input.read(&mut buffer[done..]) {
+            Ok(0) => break,
+            Ok(n) => done += n,
+            Err(_) => break,
+        }
+    }
+    done
+}
+
 // Reads the next plan, or what is left of the input where it ends before, and returns how many bytes came.
-fn read_plan(plan: &mut [u8]) -> usize
+fn read_plan(input: Stdin, plan: &mut [u8]) -> usize
     requires { max_length ≤ length plan.old }
     ensures { HasRead plan.new result }
 {
-    let head = io::read_full(STDIN_FILENO, &mut plan[..8]);
+    let head = read_full(input, &mut plan[..8]);
     let length = plan_length(&plan[..head]);
-    let rest = io::read_full(STDIN_FILENO, &mut plan[8..length]);
+    let rest = read_full(input, &mut plan[8..length]);
     head + rest
 }
 
 // Reads a plan and prints its text. Says whether to go on: there was one, its text was written, and it opens.
-fn show_next(number: u64) -> bool {
+fn show_next(rt: &HostRuntime, number: u64) -> bool {
     let mut plan = [0u8; MAX_LENGTH];
-    let length = read_plan(&mut plan);
+    let length = read_plan(rt.stdin(), &mut plan);
     if length == 0 {
         return false;
     }
     let mut out = [0u8; MAX_LINE];
     let printed = print_variances(number, &plan[..length], &mut out);
-    let is_written = io::write_all(STDOUT_FILENO, &out[..printed.written]);
+    let is_written = rt.write_all(&out[..printed.written]).is_ok();
     is_written && printed.go_on
 }
 
 // A proved loop has to end, and nothing says that the input does. So this one counts its turns down from a number that no run uses up.
-fn main() {
+fn main(rt: HostRuntime) {
     let mut turns = u64::MAX;
-    while turns > 0 && show_next(u64::MAX - turns + 1) {
+    while turns > 0 && show_next(&rt, u64::MAX - turns + 1) {
         turns -= 1;
     }
 }

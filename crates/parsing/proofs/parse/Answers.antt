@@ -10,9 +10,8 @@ pub loop-i-init : goal.loop-i-init
 loop-i-init c = search (rules, scanned_none)
 
 pub returns-then-n-gt-MAX_NUMBER : goal.returns-then-n-gt-MAX_NUMBER
-returns-then-n-gt-MAX_NUMBER c = let test = c in
-    let turn = test in
-    too_large turn.loop-i.invariant turn.loop-i-test.true _ test.is_digit.ensures c.if-is_digit.true _ c.with_digit-n.ensures _ c.refused-then-n-gt-MAX_NUMBER.ensures (search rules)
+returns-then-n-gt-MAX_NUMBER c =
+    too_large c.loop-i.invariant c.loop-i-test.true _ c.is_digit.ensures c.if-is_digit.true _ c.with_digit-n.ensures _ c.refused-then-n-gt-MAX_NUMBER.ensures (search rules)
 
 pub returns-then-not-is_gap : goal.returns-then-not-is_gap
 returns-then-not-is_gap c = search (rules, other_byte)
@@ -30,8 +29,8 @@ loop-i-preserved c =
     ]
 
 pub returns-then-count-lt3 : goal.returns-then-count-lt3
-returns-then-count-lt3 c = let end = c in
-    too_few end.loop-i.invariant end.loop-i-test.false _ c.one_if-count-2.ensures _ c.refused-then-count-lt3.ensures (search rules)
+returns-then-count-lt3 c =
+    too_few c.loop-i.invariant c.loop-i-test.false _ c.one_if-count-2.ensures _ c.refused-then-count-lt3.ensures (search rules)
 
 pub returns : goal.returns
 returns c = search (rules, accepted_text)
