@@ -1,0 +1,13 @@
+use mathlib.Core.Path.{ap}
+use mathlib.Core.Bool.{not}
+use native.Mathlib.Omega.{arith}
+use Rattle.opening.proofs.ContentTests.{array_fails, arrays_pass}
+use Rattle.opening.proofs.content.arrays_held.Goals as goal
+
+pub returns-then-not-array_held : goal.returns-then-not-array_held
+returns-then-not-array_held c =
+    let there = rw c.loop-k.invariant.1 at c.loop-k-test.true in
+    array_fails c.requires.sized there c.array_held.ensures.answer (ap not c.if-not-array_held.true)
+
+pub returns : goal.returns
+returns c = arrays_pass c.requires.sized c.loop-k.invariant.2 c.loop-k.invariant.3 (omega arith) (omega arith)

@@ -1,0 +1,21 @@
+use mathlib.Core.Bool.{not}
+use mathlib.Core.Path.{refl, ap}
+use Rattle.opening.proofs.ContentTests.{table_shape, table_arrays, table_few, arrays_unheld, arrays_met}
+use borrow.Author.Rules.{rules}
+use Rattle.opening.proofs.content.arrays_right.Goals as goal
+
+pub bounds-requires : goal.bounds-requires
+bounds-requires c =
+    record { shape = table_shape c.requires; cells_are = rw c.wide.ensures.is c.requires.cells_are; room = record { low_length = refl; high_length = refl } }
+
+pub arrays_held-requires : goal.arrays_held-requires
+arrays_held-requires c = table_arrays c.requires (rw c.wide.ensures.is at c.bounds.ensures)
+
+pub returns-then-not-arrays_held : goal.returns-then-not-arrays_held
+returns-then-not-arrays_held c = arrays_unheld c.requires c.arrays_held.ensures (ap not c.if-not-arrays_held.true)
+
+pub cells_met-requires : goal.cells_met-requires
+cells_met-requires c = search (rules, table_few)
+
+pub returns : goal.returns
+returns c = arrays_met c.requires c.arrays_held.ensures (ap not c.if-not-arrays_held.false) c.cells_met.ensures
