@@ -3,7 +3,7 @@ use mathlib.Core.Path.{◌≡◌, refl, sym, ◌∙◌}
 use mathlib.Core.Bool.{true, not, ◌&&◌}
 use mathlib.Core.List.{List, [], ◌∷◌, ◌++◌}
 use mathlib.Core.Option.{Option, some, none}
-use Prim.Native.Nat.{ℕ, ◌+◌, ◌*◌, ◌<◌, ◌≤◌}
+use Prim.Native.Nat.{ℕ, ◌*◌, ◌<◌, ◌≤◌}
 use native.Mathlib.Omega.{arith}
 use lib.ListN.{length, replicate}
 use lib.Dec.{leb}
@@ -20,7 +20,6 @@ use Rattle.refusals.proofs.Dues.{due_first, due_second, not_here, not_later, ref
 use Rattle.form.specs.declared.Sizes.{Sizes}
 use Rattle.opening.specs.declared.Opened.{Opened}
 use Rattle.opening.specs.declared.Opened.TheVariants as opened
-use Rattle.weighted_arrays.specs.Plan.{Plan}
 use Rattle.form.specs.Form.{sizes_of, decode}
 use Rattle.opening.specs.Open.{open_tests, open_refusal, Opens, open_answer}
 use Rattle.reading.specs.Clauses.{Sized}
@@ -32,7 +31,6 @@ use Rattle.campaign_start.specs.Start.{start_tests, start_refusal, cleared, star
 use Rattle.records.specs.Clauses.{Fitted}
 use Rattle.campaign_start.specs.Clauses.{sizes_or}
 use Rattle.records.proofs.Long.{room_bits, room_tally}
-use Rattle.records.proofs.Numbers.{tally_room}
 
 -- an answer with sizes, or with a refusal, and what is due
 module _ (b : List ℕ) where
