@@ -20,8 +20,8 @@ pub slice_bounds-counts_from-start : goal.slice_bounds-counts_from-start
 slice_bounds-counts_from-start c = search (rules, array_begins)
 
 pub overflow_mul-s : goal.overflow_mul-s
-overflow_mul-s c = let sized = c in
-    let few = array_sizes sized.requires sized.sizes-s.ensures in
+overflow_mul-s c =
+    let few = array_sizes c.requires c.sizes-s.ensures in
     small_product (omega (arith, few.rows)) (omega (arith, few.columns))
 
 pub counts_from-requires : goal.counts_from-requires

@@ -7,12 +7,10 @@ pub loop-i-init : goal.loop-i-init
 loop-i-init c = search (rules, put_none)
 
 pub loop-i-preserved : goal.loop-i-preserved
-loop-i-preserved c = let put = c in
-    let body = put in
-    let test = body in
-    let loop = test.loop-i.invariant in (
+loop-i-preserved c =
+    let loop = c.loop-i.invariant in (
       search rules,
       loop.1,
       loop.2,
-      entries_more test.requires test.loop-i-test.true loop.2 _ _ loop.3 _ _ body.amount.ensures body.body_at.ensures put.contents_entry.ensures,
+      entries_more c.requires c.loop-i-test.true loop.2 _ _ loop.3 _ _ c.amount.ensures c.body_at.ensures c.contents_entry.ensures,
     )
