@@ -1,0 +1,10 @@
+use Rattle.base.proofs.Listing.{listed_all}
+use Rattle.planning.proofs.LimitLoops.{limit_ready}
+use borrow.Author.Rules.{rules}
+use Rattle.planning.proofs.limits.limits.Goals as goal
+
+pub limit-requires : goal.limit-requires
+limit-requires c = limit_ready c.requires.rounded c.requires.quotients c.loop-k-test.true
+
+pub returns : goal.returns
+returns c = search (rules, listed_all)
