@@ -1,4 +1,3 @@
-use Prim.Native.Nat.{◌-◌}
 use Rattle.base.proofs.SumLoops.{summed_none, summed_more}
 use native.Mathlib.Omega.{arith}
 use borrow.Author.Rules.{rules}
