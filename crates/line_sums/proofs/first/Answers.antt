@@ -2,15 +2,14 @@ use Rattle.line_sums.proofs.FirstMatrices.{places_start, feasible_start, first_m
 use Rattle.line_sums.proofs.first.Goals as goal
 
 pub fill-requires : goal.fill-requires
-fill-requires c = let s = c.requires in
+fill-requires c =
+    let s = c.requires in
     let u = c.free_places.ensures in
     let l = c.copy_of-lack.ensures in
     record { places = places_start s.caps s.solvable u l; lack_len = l.len; feasible = feasible_start s.caps s.solvable u l }
 
 pub returns : goal.returns
-returns c = let a = c.fix_all.ensures in
-    let f = c in
-    let s = f.requires in
-    let u = f.free_places.ensures in
-    let l = f.copy_of-lack.ensures in
-    first_matrix s.caps s.solvable u l f.fill.ensures.filled a.places a.first c.bytes_of.ensures
+returns c =
+    let s = c.requires in
+    let a = c.fix_all.ensures in
+    first_matrix s.caps s.solvable c.free_places.ensures c.copy_of-lack.ensures c.fill.ensures.filled a.places a.first c.bytes_of.ensures

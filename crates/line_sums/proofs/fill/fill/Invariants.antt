@@ -1,10 +1,7 @@
-use Prim.Native.Nat.{◌≤◌, ◌-◌}
+use Prim.Native.Nat.{◌≤◌}
 use Rattle.line_sums.specs.Clauses.{FilledBy, Lacking}
 use Rattle.line_sums.proofs.Fills.{last_rows}
 use Rattle.line_sums.proofs.fill.fill.Given as goal
 
 abbrev pub invariant-loop-k : goal.invariant-loop-k
 invariant-loop-k l = (l.k ≤ 13) × (FilledBy l.initial.up l.initial.down l.initial.lack l.up l.down l.lack (last_rows l.more l.k) × Lacking l.lack l.columns)
-
-abbrev pub decreases-loop-k : goal.decreases-loop-k
-decreases-loop-k l = 13 - l.k

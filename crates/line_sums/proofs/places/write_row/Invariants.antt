@@ -1,9 +1,6 @@
-use Prim.Native.Nat.{◌+◌, ◌*◌, ◌-◌, ◌≤◌}
+use Prim.Native.Nat.{◌+◌, ◌*◌, ◌≤◌}
 use Rattle.line_sums.specs.Clauses.{BytesOf}
 use Rattle.line_sums.proofs.places.write_row.Given as goal
 
 abbrev pub invariant-loop-q : goal.invariant-loop-q
 invariant-loop-q l = (l.q ≤ 13) × BytesOf l.down l.one (l.row * 13 + l.q) l.b
-
-abbrev pub decreases-loop-q : goal.decreases-loop-q
-decreases-loop-q l = 13 - l.q
