@@ -8,7 +8,7 @@ use Prim.Native.Nat.{ℕ}
 use Rattle.base.proofs.Lists.{and_left, and_right, and_both}
 use Rattle.table.specs.Clauses.{Shape}
 use Rattle.is_rounding.specs.Rounding.{two_ways, is_rounding}
-use Rattle.first_rounding.specs.Order.{Choice, in_order, array_of, Smaller, Before, first_of}
+use Rattle.first_rounding.specs.Order.{Choice, in_order, array_of, Before, first_of}
 use Rattle.first_rounding.specs.First.{choice}
 use Rattle.first_rounding.proofs.Firsts.{Answer, answer, one_before}
 use Rattle.first_rounding.proofs.Orders.{array_of_order, order_of_array}
