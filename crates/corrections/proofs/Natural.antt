@@ -13,7 +13,7 @@ use lib.Seq.{ext_get_or}
 use Rattle.base.specs.Lists.{all}
 use Rattle.base.specs.Buffers.{written}
 use Rattle.refusals.specs.declared.Refusal.{Refusal}
-use Rattle.refusals.specs.Due.{due, after}
+use Rattle.refusals.specs.Due.{after}
 use Rattle.refusals.proofs.Dues.{first_none}
 use Rattle.table.specs.Clauses.{IsTable}
 use Rattle.table.specs.Check as natural-check

@@ -1,0 +1,17 @@
+use Rattle.base.proofs.Storing.{stored_none}
+use Rattle.corrections.proofs.Counting.{rests_more, rests_all}
+use borrow.Author.Rules.{rules}
+use Rattle.corrections.proofs.counts.remainders.Goals as goal
+
+pub loop-k-init : goal.loop-k-init
+loop-k-init c = search (rules, stored_none)
+
+pub loop-k-preserved : goal.loop-k-preserved
+loop-k-preserved c = (
+  search rules,
+  search rules,
+  rests_more c.requires _ (search rules) c.i32_to_i64.ensures c.divide-d.ensures c.loop-k.invariant.2 c.loop-k-test.true c.u64_to_u32.ensures,
+)
+
+pub returns : goal.returns
+returns c = search (rules, rests_all)
