@@ -6,7 +6,7 @@ use mathlib.Core.Option.{Option, some, none}
 use Prim.Native.Nat.{ℕ, ◌*◌, ◌<◌, ◌≤◌}
 use lib.ListN.{length}
 use lib.Dec.{leb}
-use borrow.Author.Tests.{le-leb, lt-leb, lt-ltb, le-ltb, leb-true, not-true, not-false}
+use borrow.Author.Tests.{le-leb, lt-leb, lt-ltb, le-ltb, leb-true, not-false}
 use Rattle.base.specs.Buffers.{written}
 use Rattle.base.proofs.Lists.{and_left, and_right}
 use Rattle.refusals.specs.declared.Refusal.{Refusal}
@@ -32,18 +32,18 @@ use Rattle.walk.specs.Clauses.{walk_check}
 
 -- 1 and 15, whatever else is tested after them
 module _ (r c : ℕ) {b : Bool} (e : b ≡ size_within r c) where
-  size_due : not b ≡ true → (l : List Test) → due (size_test r c ∷ l) ≡ some Size
-  size_due h l = due_here (size_test r c) l (ap not (sym e) ∙ h)
+  size_due : b ≡ false → (l : List Test) → due (size_test r c ∷ l) ≡ some Size
+  size_due h l = due_here (size_test r c) l (ap not (sym e ∙ h))
 
-  module _ (h : not b ≡ false) {s : Bool} (f : s ≡ walk_within r c) where
+  module _ (h : b ≡ true) {s : Bool} (f : s ≡ walk_within r c) where
     size_passes : (l : List Test) → due (size_test r c ∷ l) ≡ due l
-    size_passes l = due_next (size_test r c) l (ap not (sym e) ∙ h)
+    size_passes l = due_next (size_test r c) l (ap not (sym e ∙ h))
 
-    large_due : not s ≡ true → (l : List Test) → due (size_test r c ∷ walk_size_test r c ∷ l) ≡ some WalkSize
-    large_due i l = size_passes (walk_size_test r c ∷ l) ∙ due_here (walk_size_test r c) l (ap not (sym f) ∙ i)
+    large_due : s ≡ false → (l : List Test) → due (size_test r c ∷ walk_size_test r c ∷ l) ≡ some WalkSize
+    large_due i l = size_passes (walk_size_test r c ∷ l) ∙ due_here (walk_size_test r c) l (ap not (sym f ∙ i))
 
-    small_due : not s ≡ false → (l : List Test) → due (size_test r c ∷ walk_size_test r c ∷ l) ≡ due (size_test r c ∷ l)
-    small_due i l = size_passes (walk_size_test r c ∷ l) ∙ due_next (walk_size_test r c) l (ap not (sym f) ∙ i) ∙ sym (size_passes l)
+    small_due : s ≡ true → (l : List Test) → due (size_test r c ∷ walk_size_test r c ∷ l) ≡ due (size_test r c ∷ l)
+    small_due i l = size_passes (walk_size_test r c ∷ l) ∙ due_next (walk_size_test r c) l (ap not (sym f ∙ i)) ∙ sym (size_passes l)
 
 module _ (r c d : ℕ) (g : List ℕ) where
   -- the refusals of a table that come after
@@ -52,28 +52,28 @@ module _ (r c d : ℕ) (g : List ℕ) where
 
   -- the check, and the first call, in which the table's own follows
   module _ {b : Bool} (e : b ≡ size_within r c) where
-    pub bad_size : not b ≡ true → checked.Refused Size ≡ walk_check r c d g
+    pub bad_size : b ≡ false → checked.Refused Size ≡ walk_check r c d g
     unfolding walk_check
     bad_size h = ap (answered r c d) (sym (size_due r c e h (walk_size_test r c ∷ later)))
 
-    pub first_bad_size : not b ≡ true → (room : ℕ) → first_refusal r c d g room ≡ some Size
+    pub first_bad_size : b ≡ false → (room : ℕ) → first_refusal r c d g room ≡ some Size
     unfolding first_refusal
     first_bad_size h room = size_due r c e h (walk_size_test r c ∷ (later ++ (room_test r c room ∷ [])))
 
-    module _ (h : not b ≡ false) {s : Bool} (f : s ≡ walk_within r c) where
-      pub too_large : not s ≡ true → checked.Refused WalkSize ≡ walk_check r c d g
+    module _ (h : b ≡ true) {s : Bool} (f : s ≡ walk_within r c) where
+      pub too_large : s ≡ false → checked.Refused WalkSize ≡ walk_check r c d g
       unfolding walk_check
       too_large i = ap (answered r c d) (sym (large_due r c e h f i later))
 
-      pub small_enough : not s ≡ false → {k : Checked} → k ≡ check_of r c d g → k ≡ walk_check r c d g
+      pub small_enough : s ≡ true → {k : Checked} → k ≡ check_of r c d g → k ≡ walk_check r c d g
       unfolding walk_check check_of check_of_cells
       small_enough i q = q ∙ ap (answered r c d) (sym (small_due r c e h f i later))
 
-      pub first_too_large : not s ≡ true → (room : ℕ) → first_refusal r c d g room ≡ some WalkSize
+      pub first_too_large : s ≡ false → (room : ℕ) → first_refusal r c d g room ≡ some WalkSize
       unfolding first_refusal
       first_too_large i room = large_due r c e h f i (later ++ (room_test r c room ∷ []))
 
-      pub first_rounds : not s ≡ false → {old new : List ℕ} {a : Answer}
+      pub first_rounds : s ≡ true → {old new : List ℕ} {a : Answer}
           → Answers (round_refusal r c d g (length old)) (written (first_rounding r c d g) old) old a new
           → Answers (first_refusal r c d g (length old)) (written (first_rounding r c d g) old) old a new
       unfolding first_refusal round_refusal
@@ -137,26 +137,26 @@ module _ (r c d : ℕ) (g : List ℕ) {k : Checked} (e : k ≡ walk_check r c d 
       tested : b ≡ is_rounding (two_ways r c) d g n
       tested = rw sizes at f
 
-      pub no_rounding : not b ≡ true → (room : ℕ) → next_refusal r c d g n room ≡ some NotRounding
+      pub no_rounding : b ≡ false → (room : ℕ) → next_refusal r c d g n room ≡ some NotRounding
       unfolding next_refusal due
-      no_rounding l room = due_second (walk_tests r c d g) (array_tests r c d g n room) nothing ∙ simp (sym tested ∙ not-true b l)
+      no_rounding l room = due_second (walk_tests r c d g) (array_tests r c d g n room) nothing ∙ simp (sym tested ∙ l)
 
-      module _ (l : not b ≡ false) where
+      module _ (l : b ≡ true) where
         pub rounds_so : is_rounding (two_ways t.rows t.columns) t.denominator g n ≡ true
-        rounds_so = sym f ∙ not-false b l
+        rounds_so = sym f ∙ l
 
         module _ (room : ℕ) where
           pub next_short : room < t.rows * t.columns → next_refusal r c d g n room ≡ some Buffer
           unfolding next_refusal due
           next_short s =
               let m : room < r * c = rw sizes at s in
-              due_second (walk_tests r c d g) (array_tests r c d g n room) nothing ∙ simp (sym tested ∙ not-false b l, lt-ltb room (r * c) m)
+              due_second (walk_tests r c d g) (array_tests r c d g n room) nothing ∙ simp (sym tested ∙ l, lt-ltb room (r * c) m)
 
           pub next_enough : t.rows * t.columns ≤ room → next_refusal r c d g n room ≡ none
           unfolding next_refusal due
           next_enough s =
               let m : r * c ≤ room = rw sizes at s in
-              due_second (walk_tests r c d g) (array_tests r c d g n room) nothing ∙ simp (sym tested ∙ not-false b l, le-ltb room (r * c) m)
+              due_second (walk_tests r c d g) (array_tests r c d g n room) nothing ∙ simp (sym tested ∙ l, le-ltb room (r * c) m)
 
     pub found_so : (n : List ℕ) {old new : List ℕ} {b : Bool} → Found (next_rounding t.rows t.columns t.denominator g n) old b new
         → Found (next_rounding r c d g n) old b new
