@@ -26,15 +26,15 @@ use Rattle.refusals.proofs.Dues.{due_first, due_second, not_here, not_later, ref
 use Rattle.form.specs.declared.Sizes.{Sizes}
 use Rattle.opening.specs.declared.Opened.{Opened}
 use Rattle.opening.specs.declared.Opened.TheVariants as opened
-use Rattle.weighted_arrays.specs.Plan.{Plan, cell_count}
+use Rattle.weighted_arrays.specs.Plan.{cell_count}
 use Rattle.form.specs.Form.{sizes_of, decode}
 use Rattle.opening.specs.Open.{Opens}
 use Rattle.drawing.specs.Draw.{drawn_array}
 use Rattle.drawing.specs.Clauses.{Drawing}
 use Rattle.reading.specs.Clauses.{Sized}
 use Rattle.reading.proofs.Sizing.{cells_are, denominator_is, sized_denominator}
-use Rattle.opening.proofs.Opening.{is_open, opened_sized, sizes_product}
-use Rattle.records.specs.Record.{CampaignRecord, record_of, max_rounds, within, fits}
+use Rattle.opening.proofs.Opening.{opened_sized, sizes_product}
+use Rattle.records.specs.Record.{CampaignRecord, record_of, max_rounds, fits}
 use Rattle.bits.specs.Bits.{bit_of, bit_bytes}
 use Rattle.campaign_start.specs.Start.{start_tests, start_refusal}
 use Rattle.campaign_draw.specs.Draw.{campaign_refusal, taking, closed, ask, made, Draws}

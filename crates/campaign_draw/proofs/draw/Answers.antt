@@ -1,6 +1,5 @@
 use mathlib.Core.Path.{refl}
 use native.Mathlib.Omega.{arith}
-use borrow.Author.Rules.{rules}
 use Rattle.campaign_draw.proofs.Calling.{draw_product, array_asked, addable, bit_asked, round_asked, count_small, draw_keeps, draw_leaves}
 use Rattle.campaign_draw.proofs.draw.Goals as goal
 
