@@ -9,8 +9,7 @@ pub returns-then-plan-length : goal.returns-then-plan-length
 returns-then-plan-length c = search (rules, too_short)
 
 pub write-requires : goal.write-requires
-write-requires c = let l = c in
-    writable l.gather-arrays.ensures l.plan_length-length.ensures c.if-plan-length.false
+write-requires c = writable c.gather-arrays.ensures c.plan_length-length.ensures c.if-plan-length.false
 
 pub overflow_cast-result : goal.overflow_cast-result
 overflow_cast-result c = search (rules, length_fits)

@@ -1,3 +1,4 @@
+-- `reason_numbers::claims` states what the laws of this folder prove.
 use Rattle.reason_numbers.proofs.Replying.{reply_number_lem}
 use Rattle.reason_numbers.proofs.Examples.{calls_hold}
 use Rattle.reason_numbers.proofs.claims.Goals as goal

@@ -4,7 +4,7 @@ use Rattle.reasons.proofs.Naming.{names_places}
 use Rattle.reasons.proofs.claims.Goals as goal
 
 pub returns-clause-explained : goal.returns-clause-explained
-returns-clause-explained k = every_explained
+returns-clause-explained c = every_explained
 
 pub returns-clause-named : goal.returns-clause-named
-returns-clause-named k = names_places
+returns-clause-named c = names_places

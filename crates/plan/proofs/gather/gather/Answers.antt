@@ -9,9 +9,9 @@ pub loop-w-init : goal.loop-w-init
 loop-w-init c = search (rules, gathered_start)
 
 pub one_round-x-requires : goal.one_round-x-requires
-one_round-x-requires c = let turn = c in
-    let o = turn.loop-w.invariant in
-    record { grid = entries_left o.reached; some = turn.loop-w-test.true; small = weight_left o.reached; len = refl }
+one_round-x-requires c =
+    let o = c.loop-w.invariant in
+    record { grid = entries_left o.reached; some = c.loop-w-test.true; small = weight_left o.reached; len = refl }
 
 pub u64_to_u32-requires : goal.u64_to_u32-requires
 u64_to_u32-requires c = search (rules, weight_fits)
@@ -23,8 +23,7 @@ pub bounds-weights-k : goal.bounds-weights-k
 bounds-weights-k c = search (rules, weights_room)
 
 pub overflow_mul-k : goal.overflow_mul-k
-overflow_mul-k c = let turn = c in
-    start_fits turn.loop-w.invariant turn.loop-w-test.true
+overflow_mul-k c = start_fits c.loop-w.invariant c.loop-w-test.true
 
 pub write_cells-requires : goal.write_cells-requires
 write_cells-requires c = search (rules, array_ready)
@@ -42,6 +41,7 @@ pub loop-w-preserved : goal.loop-w-preserved
 loop-w-preserved c = search (rules, gathered_step)
 
 pub returns : goal.returns
-returns c = let l = c.loop-w in
+returns c =
+    let l = c.loop-w in
     let z : l.w ≡ 0 = omega arith in
     record { e = l.e; rounds = rw z at l.invariant }
