@@ -1,6 +1,7 @@
 -- What the call knows of its two parts, their scale and their pooled cells says at each return what is due.
 use mathlib.Core.Path.{ap}
 use mathlib.Core.Bool.{not}
+use native.Mathlib.Omega.{arith}
 use borrow.Author.Tests.{lt-ltb, le-ltb}
 use Rattle.pool.proofs.Calls.{parts_stop, pair_denominators, cells_scaled, multiple_stops, cell_stops, numbers_stop, cells_stop, can_write, pooled}
 use Rattle.pool.proofs.pool.Goals as goal
@@ -17,7 +18,7 @@ returns-then-above c =
 
 pub returns-then-not-within : goal.returns-then-not-within
 returns-then-not-within c =
-    cell_stops _ _ _ _ _ _ _ _ c.check_parts-parts.ensures c.in-Accepted.is c.scale_of-s.ensures (le-ltb _ _ c.if-above.false)
+    cell_stops _ _ _ _ _ _ _ _ c.check_parts-parts.ensures c.in-Accepted.is c.scale_of-s.ensures (le-ltb _ _ (omega arith))
     c.pooled_within-within.ensures (ap not c.if-not-within.true)
 
 pub returns-then-denominator-lt1 : goal.returns-then-denominator-lt1
