@@ -1,5 +1,5 @@
 -- The lines of a stored plan, and room for them. Assumes nothing.
-use Rattle.std.specs.Prelude.{true, List, [], ℕ, ◌-◌, ◌+◌, ◌≤◌, length, get_or, take, ◌≡◌}
+use Rattle.std.specs.Prelude.{true, List, [], ℕ, ◌+◌, ◌≤◌, length, get_or, take, ◌≡◌}
 use Rattle.weighted_arrays.specs.Plan.{Plan}
 use Rattle.form.specs.Form.{laid_out, decode}
 use Rattle.printing.specs.Lines.{line}

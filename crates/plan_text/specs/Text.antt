@@ -1,5 +1,5 @@
 -- What the printing program prints of its input (specification, "The printing program"). Assumes nothing.
-use Rattle.std.specs.Prelude.{List, [], ◌∷◌, ◌++◌, map, ℕ, ◌+◌, length, get_or, drop}
+use Rattle.std.specs.Prelude.{List, [], ◌∷◌, ◌++◌, map, ℕ, length, get_or, drop}
 use Rattle.std.proofs.Math.Option.{Option, some, none}
 use Rattle.refusals.specs.Numbers.{number_of}
 use Rattle.refusals.specs.Due.{refused_or}
