@@ -193,22 +193,22 @@ module _ (b : List ℕ) (o : Opens b) (s₀ : CampaignRecord) (room : room_for (
   pub run_holds : {h : List Made} {r : Rounds} {s : CampaignRecord} → RunHolds (decode b) s₀ h r s → (l : List Asked)
       → RunHolds (decode b) s₀ (h ++ draws b s l) (further (decode b).denominator r (draws b s l)) (last_record s (draws b s l))
   unfolding draws further last_record
-  run_holds run [] = rw append-nil run
-  run_holds run (x ∷ l) = rw append_assoc at (run_holds (step run x) l)
+  run_holds {h = h} {r = r} {s = s} run [] = rw append-nil run
+  run_holds {h = h} {r = r} {s = s} run (x ∷ l) = rw append_assoc at (run_holds {h = h ++ (made b s x ∷ [])} (step run x) l)
 
   pub run_each : {h : List Made} {r : Rounds} {s : CampaignRecord} → RunHolds (decode b) s₀ h r s → (l : List Asked)
       → (earlier : List Made) (t : Made) (later : List Made) → draws b s l ≡ earlier ++ (t ∷ later) → DrawClaim b (further (decode b).denominator r earlier) t
   unfolding draws further
-  run_each run [] [] t later e = absurd (no_draw e)
-  run_each run [] (u ∷ earlier) t later e = absurd (no_draw e)
-  run_each {r = r} {s} run (x ∷ l) [] t later e =
+  run_each {h = h} {r = r} {s = s} run [] [] t later e = absurd (no_draw e)
+  run_each {h = h} {r = r} {s = s} run [] (u ∷ earlier) t later e = absurd (no_draw e)
+  run_each {h = h} {r = r} {s = s} run (x ∷ l) [] t later e =
       let this : made b s x ≡ t = cc in
       subst (λ (k : Made). DrawClaim b r k) this (draw_claim run x)
-  run_each {r = r} {s} run (x ∷ l) (u ∷ earlier) t later e =
+  run_each {h = h} {r = r} {s = s} run (x ∷ l) (u ∷ earlier) t later e =
       let first : made b s x ≡ u = cc in
       let rest : draws b (made b s x).left l ≡ earlier ++ (t ∷ later) = cc in
       subst (λ (k : Made). DrawClaim b (further (decode b).denominator (one_more (decode b).denominator r k) earlier) t) first
-      (run_each (step run x) l earlier t later rest)
+      (run_each {h = h ++ (made b s x ∷ [])} (step run x) l earlier t later rest)
 
 pub run_asked : (b : List ℕ) (s : CampaignRecord) (l : List Asked) → map (λ t. t.asked) (draws b s l) ≡ l
 unfolding draws made
