@@ -1,5 +1,5 @@
 use mathlib.Core.Path.{◌≡◌}
-use Prim.Native.Nat.{◌+◌, ◌-◌, ◌≤◌}
+use Prim.Native.Nat.{◌+◌, ◌≤◌}
 use lib.ListN.{length}
 use Rattle.form.specs.Form.{decode}
 use Rattle.printing.specs.Lines.{line}
@@ -10,6 +10,3 @@ use Rattle.plan_text.proofs.print.print_lines.Given as goal
 
 abbrev pub invariant-loop-k : goal.invariant-loop-k
 invariant-loop-k l = (l.n ≡ length (decode l.plan).arrays + 1) × (l.n ≤ 171) × Writing (λ j. line (plan_line (decode l.plan) j)) l.n l.k (listing (decode l.plan)) l.initial.out l.at l.out l.end
-
-abbrev pub decreases-loop-k : goal.decreases-loop-k
-decreases-loop-k l = l.n - l.k
