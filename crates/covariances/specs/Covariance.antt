@@ -1,4 +1,4 @@
--- Covariances of what a drawn array counts (specification, "Variances"). Each is a numerator: the value is that over D-as-D. Assumes nothing.
+-- Covariances of what a drawn array counts (specification, "Variances"). Each is a numerator: the value is that over D·D. Assumes nothing.
 use Rattle.std.specs.Prelude.{cond, ℕ, ◌*◌, ℤ, pos, get_or}
 use mathlib.Core.List.{List, [], ◌∷◌, map, foldl}
 use Rattle.std.proofs.Math.IntN.{sub_ℕ}

@@ -1,4 +1,4 @@
-// The smallest and the largest covariance of two different cells of a plan, as numerators over D.D.
+// The smallest and the largest covariance of two different cells of a plan, as numerators over D·D.
 #![tactic(auto)]
 
 ghost use Rattle.std.specs.Prelude.{◌≡◌};

@@ -1,4 +1,4 @@
--- Variances of what a drawn array counts, and the three numerators of a plan (specification, "Variances"). Each is a numerator: the value is that over D-as-D. Assumes nothing.
+-- Variances of what a drawn array counts, and the three numerators of a plan (specification, "Variances"). Each is a numerator: the value is that over D·D. Assumes nothing.
 use Rattle.std.specs.Prelude.{List, [], ◌∷◌, map, ℕ, ◌-◌, ◌*◌, ◌%◌, ℤ}
 use Rattle.base.specs.Lists.{tabulate, sumℤ}
 use Rattle.weighted_arrays.specs.Plan.{Plan, cell_count}

@@ -1,4 +1,4 @@
-// Exact variances and covariances of a plan's cells, as numerators over D.D.
+// Exact variances and covariances of a plan's cells, as numerators over D·D.
 #![tactic(auto)]
 
 ghost use Rattle.std.specs.Prelude.{◌≡◌, true, ℕ, ◌*◌, ◌<◌, ◌≤◌, ℤ, pos, length, get_or};

@@ -1,4 +1,4 @@
-use Prim.Native.Nat.{◌≤◌, ◌-◌}
+use Prim.Native.Nat.{◌≤◌}
 use mathlib.Core.Path.{◌≡◌}
 use lib.ListN.{length}
 use Rattle.form.specs.Form.{decode}
@@ -7,6 +7,3 @@ use Rattle.covariances.proofs.pairs.all_pairs.Given as goal
 
 abbrev pub invariant-loop-a : goal.invariant-loop-a
 invariant-loop-a l = (l.a ≤ l.a-end) × (l.a-end ≡ length l.cells) × RowsTo (decode l.plan) l.a l.low l.high
-
-abbrev pub decreases-loop-a : goal.decreases-loop-a
-decreases-loop-a l = l.a-end - l.a

@@ -6,22 +6,22 @@ use Rattle.covariances.proofs.Rows.{kept_none, part_length, kept_more}
 use Rattle.covariances.proofs.sums.keep_counts.Goals as goal
 
 pub loop-k-init : goal.loop-k-init
-loop-k-init c = let pre = c.requires in
+loop-k-init c =
+    let pre = c.requires in
     (omega arith, sized_arrays pre.sized, sym (arrays_are pre.sized), kept_none _ _ pre.room)
 
 pub read_array-requires : goal.read_array-requires
-read_array-requires c = let turn = c in
-    let loop = turn.loop-k.invariant in
-    let pre = turn.requires in
-    has_counts pre.sized turn.loop-k-test.true (omega (arith, part_length loop.3 (omega (arith, loop.1)), sized_few pre.sized))
+read_array-requires c =
+    let loop = c.loop-k.invariant in
+    let sized = c.requires.sized in
+    has_counts sized c.loop-k-test.true (omega (arith, part_length loop.3 (omega (arith, loop.1)), sized_few sized))
 
 pub loop-k-preserved : goal.loop-k-preserved
-loop-k-preserved c = let call = c in
-    let turn = call in
-    let loop = turn.loop-k.invariant in
-    let pre = turn.requires in (
+loop-k-preserved c =
+    let loop = c.loop-k.invariant in
+    let sized = c.requires.sized in (
       omega arith,
       loop.1,
       loop.2,
-      kept_more loop.3 (omega (arith, loop.1)) refl (counts_length _ _ (omega (arith, loop.2))) (omega (arith, cells_are pre.sized, sized_few pre.sized)) call.read_array.ensures,
+      kept_more loop.3 (omega (arith, loop.1)) refl (counts_length _ _ (omega (arith, loop.2))) (omega (arith, cells_are sized, sized_few sized)) c.read_array.ensures,
     )

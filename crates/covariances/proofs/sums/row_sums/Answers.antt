@@ -4,7 +4,7 @@ use borrow.Author.Rules.{rules}
 use Rattle.covariances.proofs.sums.row_sums.Goals as goal
 
 pub loop-k-init : goal.loop-k-init
-loop-k-init c = let pre = c.requires in (omega arith, row_many pre, pre.empty)
+loop-k-init c = (omega arith, row_many c.requires, c.requires.empty)
 
 pub overflow_mul-at : goal.overflow_mul-at
 overflow_mul-at c = search (rules, row_start)
@@ -22,8 +22,7 @@ pub bounds-counts-at : goal.bounds-counts-at
 bounds-counts-at c = search (rules, row_inside)
 
 pub overflow_mul-factor : goal.overflow_mul-factor
-overflow_mul-factor c = let turn = c in
-    factor_fits turn.requires turn.loop-k-test.true turn.loop-k.invariant.2 c.weight.ensures c.u16_to_u32.ensures
+overflow_mul-factor c = factor_fits c.requires c.loop-k-test.true c.loop-k.invariant.2 c.weight.ensures c.u16_to_u32.ensures
 
 pub overflow_add-at-in-loop-k : goal.overflow_add-at-in-loop-k
 overflow_add-at-in-loop-k c = search (rules, row_place)
@@ -38,10 +37,9 @@ pub add_weighted-requires : goal.add_weighted-requires
 add_weighted-requires c = search (rules, row_addable)
 
 pub loop-k-preserved : goal.loop-k-preserved
-loop-k-preserved c = let read = c in
-    let turn = read in
-    let loop = turn.loop-k.invariant in (
+loop-k-preserved c =
+    let loop = c.loop-k.invariant in (
       omega arith,
       loop.1,
-      row_more turn.requires turn.loop-k-test.true loop.2 read.weight.ensures read.u16_to_u32.ensures c.add_weighted.ensures,
+      row_more c.requires c.loop-k-test.true loop.2 c.weight.ensures c.u16_to_u32.ensures c.add_weighted.ensures,
     )
