@@ -83,7 +83,7 @@ begin() { # SENTENCE ARGUMENT..
     if ! built; then
         [ -x "$program" ] && [ -r "$stamp" ] && why='the sources changed since the program was built' || why='the program is not built by this script yet'
         for tool in rt flock; do command -v "$tool" > /dev/null || fail "$why, and $tool, which building needs, is not on the path"; done
-        # the locks are on folders that no build removes
-        (build) 8< "crates/$crate" 9< . || exit 2
+        # the locks are on files that no build removes, and not on the folders that rt itself locks
+        (build) 8< "$script" 9< scripts || exit 2
     fi
 }
