@@ -132,7 +132,7 @@ slips =
     -- mending along the rows, and along the columns: no controlled rounding
     ∷ slip (is_rounding (two_ways 2 2) 2 halves (first_rounding 2 2 2 halves)) (is_rounding (two_ways 2 2) 2 halves (mended 2 halves (0 ∷ 1 ∷ 2 ∷ 3 ∷ []) (alone 2 halves)))
     ∷ slip (is_rounding (two_ways 2 2) 2 halves (first_rounding 2 2 2 halves)) (is_rounding (two_ways 2 2) 2 halves (mended 2 halves (0 ∷ 2 ∷ 1 ∷ 3 ∷ []) (alone 2 halves)))
-    -- along the diagonal: a controlled rounding, as `mended-rounds` says, and not the first
+    -- along the diagonal: a controlled rounding, as `mended_rounds` says, and not the first
     ∷ slip (same (0 ∷ 1 ∷ 1 ∷ 0 ∷ []) (first_rounding 2 2 2 halves)) (same (0 ∷ 1 ∷ 1 ∷ 0 ∷ []) (mended 2 halves (0 ∷ 3 ∷ 1 ∷ 2 ∷ []) (alone 2 halves)))
     -- one row 1 1 2 over 2: its whole cell rises to 2
     ∷ slip (is_rounding (two_ways 1 3) 2 (1 ∷ 1 ∷ 2 ∷ []) (first_rounding 1 3 2 (1 ∷ 1 ∷ 2 ∷ []))) (is_rounding (two_ways 1 3) 2 (1 ∷ 1 ∷ 2 ∷ []) (first_loose 1 3 2 (1 ∷ 1 ∷ 2 ∷ [])))
