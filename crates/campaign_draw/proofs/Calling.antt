@@ -1,8 +1,8 @@
 -- What a campaign draw answers and writes, by the tests on its way. Assumes nothing.
+use Rattle.std.specs.Prelude.{None}
 use mathlib.Core.Path.{◌≡◌, refl, sym, ap, ◌∙◌}
 use mathlib.Core.Bool.{Bool, true, false, not}
 use mathlib.Core.List.{List, [], ◌∷◌}
-use mathlib.Core.Option.{none}
 use Prim.Native.Nat.{ℕ, ◌+◌, ◌*◌, ◌/◌, ◌%◌, ◌^◌, ◌<◌, ◌≤◌}
 use native.Mathlib.Nat.{mul-le-mul}
 use native.Mathlib.Omega.{arith}
@@ -136,7 +136,7 @@ module _ (b : List ℕ) (s : CampaignRecord) (d room : ℕ) {o : Opened} (is : o
 
   -- what an accepted draw has passed
   module _ {t : Sizes} (e : o ≡ opened.Plan t) where
-    none_due : campaign_refusal b d s room ≡ none
+    none_due : campaign_refusal b d s room ≡ None
     none_due = (told_plan b _ (sym is ∙ e)).0
 
     sizes : t ≡ sizes_of b
@@ -157,7 +157,7 @@ module _ (b : List ℕ) (s : CampaignRecord) (d room : ℕ) {o : Opened} (is : o
     cells = sym (cells_are sized)
 
     rest_due : due (refuse Buffer (ltb room (cell_count (decode b))) ∷ refuse Number (leb (decode b).denominator d)
-        ∷ refuse Record (not (fits (decode b) s)) ∷ refuse Rounds (leb max_rounds s.rounds) ∷ refuse Taken (not (eqb (bit_of s.bits d) 0)) ∷ []) ≡ none
+        ∷ refuse Record (not (fits (decode b) s)) ∷ refuse Rounds (leb max_rounds s.rounds) ∷ refuse Taken (not (eqb (bit_of s.bits d) 0)) ∷ []) ≡ None
     unfolding campaign_refusal
     rest_due = after_start b s _ none_due
 

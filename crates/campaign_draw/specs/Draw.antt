@@ -1,7 +1,6 @@
 -- A campaign draw: when it is refused, what it answers and what it leaves (specification, "Campaign record" and "Refusals"). The code is equated with this, and
 -- a run is made of draws after a start. Assumes nothing.
-use Rattle.std.specs.Prelude.{◌≡◌, cond, not, List, [], ◌∷◌, ◌++◌, ℕ, ◌+◌, ◌/◌, ◌%◌, ◌^◌, length, get_or, set, replicate, leb, ltb, eqb}
-use Rattle.std.proofs.Math.Option.{Option}
+use Rattle.std.specs.Prelude.{◌≡◌, cond, not, List, [], ◌∷◌, ◌++◌, ℕ, ◌+◌, ◌/◌, ◌%◌, ◌^◌, length, get_or, set, replicate, leb, ltb, eqb, Option}
 use Rattle.base.specs.Lists.{tabulate}
 use Rattle.base.specs.Buffers.{written}
 use Rattle.refusals.specs.declared.Answer.{Answer}

@@ -1,8 +1,8 @@
 -- What a start answers and writes, by the tests on its way, and what a call goes on with that opens a plan for a record. Assumes nothing.
+use Rattle.std.specs.Prelude.{Option, Some, None}
 use mathlib.Core.Path.{◌≡◌, refl, sym, ◌∙◌}
 use mathlib.Core.Bool.{true, not, ◌&&◌}
 use mathlib.Core.List.{List, [], ◌∷◌, ◌++◌}
-use mathlib.Core.Option.{Option, some, none}
 use Prim.Native.Nat.{ℕ, ◌*◌, ◌<◌, ◌≤◌}
 use native.Mathlib.Omega.{arith}
 use lib.ListN.{length, replicate}
@@ -34,23 +34,23 @@ use Rattle.records.proofs.Long.{room_bits, room_tally}
 
 -- an answer with sizes, or with a refusal, and what is due
 module _ (b : List ℕ) where
-  pub says_plan : {o : Option Refusal} {t : Sizes} → o ≡ none → t ≡ sizes_of b → opened.Plan t ≡ sizes_or b o
+  pub says_plan : {o : Option Refusal} {t : Sizes} → o ≡ None → t ≡ sizes_of b → opened.Plan t ≡ sizes_or b o
   unfolding sizes_or
   says_plan h e = rw (h, e)
 
-  pub says_refused : {o : Option Refusal} {x : Refusal} → o ≡ some x → opened.Refused x ≡ sizes_or b o
+  pub says_refused : {o : Option Refusal} {x : Refusal} → o ≡ Some x → opened.Refused x ≡ sizes_or b o
   unfolding sizes_or
   says_refused h = rw h
 
-  pub told_plan : (o : Option Refusal) {t : Sizes} → sizes_or b o ≡ opened.Plan t → (o ≡ none) × (t ≡ sizes_of b)
+  pub told_plan : (o : Option Refusal) {t : Sizes} → sizes_or b o ≡ opened.Plan t → (o ≡ None) × (t ≡ sizes_of b)
   unfolding sizes_or
-  told_plan none e = (refl, cc)
-  told_plan (some x) e = absurd (let z : ◌≡◌ {A = ℕ} 0 1 = cc in omega arith)
+  told_plan None e = (refl, cc)
+  told_plan (Some x) e = absurd (let z : ◌≡◌ {A = ℕ} 0 1 = cc in omega arith)
 
-  pub told_refused : (o : Option Refusal) {x : Refusal} → sizes_or b o ≡ opened.Refused x → o ≡ some x
+  pub told_refused : (o : Option Refusal) {x : Refusal} → sizes_or b o ≡ opened.Refused x → o ≡ Some x
   unfolding sizes_or
-  told_refused none e = absurd (let z : ◌≡◌ {A = ℕ} 0 1 = cc in omega arith)
-  told_refused (some y) e = cc
+  told_refused None e = absurd (let z : ◌≡◌ {A = ℕ} 0 1 = cc in omega arith)
+  told_refused (Some y) e = cc
 
 pub open_product : (b : List ℕ) {o : Opened} {t : Sizes} → o ≡ open_answer b → o ≡ opened.Plan t → Fits w64 (t.rows * t.columns)
 open_product b {t = t} is e = sizes_product b t (sym is ∙ e)
@@ -81,7 +81,7 @@ module _ (b : List ℕ) (s : CampaignRecord) {o : Opened} (is : o ≡ open_answe
       long_enough l = says_plan b (room_by ∙ simp (le-leb _ _ h, le-leb _ _ l)) (is_open b t (sym is ∙ e)).sizes
 
 -- what is known where nothing is due of a start, nor of what may apply after it
-module _ (b : List ℕ) (s : CampaignRecord) (l : List Test) (h : due (start_tests b s ++ l) ≡ none) where
+module _ (b : List ℕ) (s : CampaignRecord) (l : List Test) (h : due (start_tests b s ++ l) ≡ None) where
   pub opened_first : Opens b
   opened_first = opens_by b (not-false _ (not_here _ _ h)) (not-false _ (not_here _ _ (not_later _ _ h)))
 
@@ -97,7 +97,7 @@ module _ (b : List ℕ) (s : CampaignRecord) (l : List Test) (h : due (start_tes
         tally_room = rw (cells_are sized) at (room_tally (decode b) s room_first);
       }
 
-  pub after_start : due l ≡ none
+  pub after_start : due l ≡ None
   after_start = not_later _ _ (not_later _ _ (not_later _ _ h))
 
 -- a call that goes on with a plan opened for its record
@@ -106,7 +106,7 @@ module _ (b bits tally : List ℕ) {o : Opened} (is : o ≡ sizes_or b (start_re
     pub start_sizes : t ≡ sizes_of b
     start_sizes = (told_plan b _ (sym is ∙ e)).1
 
-    pub start_none : (n rounds : ℕ) → start_refusal b (record_of n rounds bits tally) ≡ none
+    pub start_none : (n rounds : ℕ) → start_refusal b (record_of n rounds bits tally) ≡ None
     unfolding start_refusal
     start_none n rounds = (told_plan b _ (sym is ∙ e)).0
 
@@ -130,7 +130,7 @@ module _ (b bits tally : List ℕ) {o : Opened} (is : o ≡ sizes_or b (start_re
     abbrev given : CampaignRecord
     given = record_of n rounds bits tally
 
-    pub start_refused : {x : Refusal} → o ≡ opened.Refused x → start_refusal b given ≡ some x
+    pub start_refused : {x : Refusal} → o ≡ opened.Refused x → start_refusal b given ≡ Some x
     unfolding start_refusal
     start_refused e = told_refused b _ (sym is ∙ e)
 

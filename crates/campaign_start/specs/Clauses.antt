@@ -1,6 +1,5 @@
 -- What inner functions are held to. Assumes nothing.
-use Rattle.std.specs.Prelude.{List, ℕ}
-use Rattle.std.proofs.Math.Option.{Option}
+use Rattle.std.specs.Prelude.{List, ℕ, Option}
 use Rattle.refusals.specs.declared.Refusal.{Refusal}
 use Rattle.refusals.specs.Due.{refused_or}
 use Rattle.form.specs.Form.{sizes_of}

@@ -1,7 +1,6 @@
 -- A campaign start: when it is refused, what it answers and what it leaves (specification, "Campaign record" and "Refusals"). The code is equated with this,
 -- and a run begins with it. Assumes nothing.
-use Rattle.std.specs.Prelude.{◌≡◌, not, List, [], ◌∷◌, ◌++◌, ℕ, replicate}
-use Rattle.std.proofs.Math.Option.{Option}
+use Rattle.std.specs.Prelude.{◌≡◌, not, List, [], ◌∷◌, ◌++◌, ℕ, replicate, Option}
 use Rattle.base.specs.Buffers.{written}
 use Rattle.refusals.specs.declared.Answer.{Answer}
 use Rattle.refusals.specs.declared.Refusal.{Refusal}

@@ -1,6 +1,5 @@
 -- Which refusal a table of corrections meets, whose cells may be below zero (specification, "The rounding of corrections"). Assumes nothing.
-use Rattle.std.specs.Prelude.{Bool, ◌&&◌, List, ℕ, ◌*◌, ℤ, pos, neg_ℤ, length}
-use Rattle.std.proofs.Math.Option.{Option}
+use Rattle.std.specs.Prelude.{Bool, ◌&&◌, List, ℕ, ◌*◌, ℤ, pos, neg_ℤ, length, Option}
 use Rattle.std.specs.Int.Signed.{le_z}
 use Rattle.base.specs.Lists.{all}
 use Rattle.refusals.specs.declared.Refusal.{Refusal}

@@ -1,10 +1,10 @@
 -- A table whose cells are whole multiples of w and naturals apart: its controlled roundings are those of the naturals, with the multiples added, in the same
 -- order. Assumes nothing.
+use Rattle.std.specs.Prelude.{Option, Some, None}
 use mathlib.Core.Path.{◌≡◌, refl, sym, ap, ap₂, ◌∙◌}
 use mathlib.Core.Logic.{inl, inr}
 use mathlib.Core.Bool.{Bool, true, false, ◌&&◌}
 use mathlib.Core.List.{List, [], ◌∷◌, map, zip_with}
-use mathlib.Core.Option.{Option, some, none}
 use Prim.Native.Nat.{ℕ, zero, suc, ◌+◌, ◌*◌, ◌/◌, ◌%◌, ◌<◌}
 use native.Mathlib.Omega.{arith}
 use borrow.Author.Tests.{eqb-true}
@@ -85,8 +85,8 @@ abbrev moved_choice : ℤ → Choice ℕ → Choice ℤ
 moved_choice z c = record { low = plus z c.low; high = plus z c.high }
 
 abbrev moved_some : List ℤ → Option (List ℕ) → Option (List ℤ)
-moved_some q (some n) = some (moved q n)
-moved_some q none = none
+moved_some q (Some n) = Some (moved q n)
+moved_some q None = None
 
 search_moved : (test : List ℤ → Bool) (natural : List ℕ → Bool) (q : List ℤ) (cs : List (Choice ℕ)) → length q ≡ length cs
     → ((n : List ℕ) → length n ≡ length cs → test (moved q n) ≡ natural n) → first_of test (zip_with moved_choice q cs) ≡ moved_some q (first_of natural cs)
@@ -107,9 +107,9 @@ search_moved test natural (z ∷ q) (c ∷ cs) e h =
     ∙ joined (first_of (λ n. natural (c.low ∷ n)) cs) (first_of (λ n. natural (c.high ∷ n)) cs)
   where
     joined : (u v : Option (List ℕ)) → either (plus z c.low) (plus z c.high) (moved_some q u) (moved_some q v) ≡ moved_some (z ∷ q) (either c.low c.high u v)
-    joined (some n) v = refl
-    joined none (some n) = refl
-    joined none none = refl
+    joined (Some n) v = refl
+    joined None (Some n) = refl
+    joined None None = refl
 
 -- the order
 smaller_moved : (q : List ℤ) (k n : List ℕ) → Smaller ◌<ℤ◌ (moved q k) (moved q n) → Smaller ◌<◌ k n

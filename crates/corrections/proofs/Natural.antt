@@ -1,8 +1,8 @@
 -- On a table without a cell below zero the call answers as "rounding" does. Assumes nothing.
+use Rattle.std.specs.Prelude.{Option, Some, None}
 use mathlib.Core.Path.{◌≡◌, refl, sym, ap, ap₂, ◌∙◌}
 use mathlib.Core.Bool.{◌&&◌}
 use mathlib.Core.List.{List, [], ◌∷◌, ◌++◌, map, map-append}
-use mathlib.Core.Option.{Option, some, none}
 use Prim.Native.Nat.{ℕ, zero, suc, ◌*◌}
 use native.Mathlib.Omega.{arith}
 use borrow.Author.Tests.{le-leb}
@@ -97,15 +97,15 @@ module _ (r c d : ℕ) (g buffer : List ℕ) where
   due_is : round_refusal r c d (map pos g) (length (map pos buffer)) ≡ natural-call.round_refusal r c d g (length buffer)
   due_is = ap (round_refusal r c d (map pos g)) (length-map buffer pos) ∙ due_same r c d g (length buffer)
 
-  accepted : natural-call.round_refusal r c d g (length buffer) ≡ none → IsTable r c d g
+  accepted : natural-call.round_refusal r c d g (length buffer) ≡ None → IsTable r c d g
   unfolding natural-call.round_refusal natural-check.table_refusal
   accepted e = passed_all r c d g (first_none (natural-check.table_tests r c d g) _ e)
 
   left_of : (o : Option Refusal) → natural-call.round_refusal r c d g (length buffer) ≡ o
       → after o (written (first_rounding r c d (map pos g)) (map pos buffer)) (map pos buffer) ≡ map pos (after o (written (natural.first_rounding r c d g) buffer) buffer)
   unfolding after
-  left_of (some x) e = refl
-  left_of none e = ap (λ (l : List ℤ). written l (map pos buffer)) (first_same (accepted e)) ∙ written_natural (natural.first_rounding r c d g) buffer
+  left_of (Some x) e = refl
+  left_of None e = ap (λ (l : List ℤ). written l (map pos buffer)) (first_same (accepted e)) ∙ written_natural (natural.first_rounding r c d g) buffer
 
   pub reply_same : reply_of r c d (map pos g) (map pos buffer) ≡ natural_reply r c d g buffer
   reply_same =

@@ -1,8 +1,8 @@
 -- From an accepted table of corrections to the buffer that its rounding is written to. Assumes nothing.
+use Rattle.std.specs.Prelude.{None}
 use mathlib.Core.Path.{◌≡◌, sym, ap, ap₂, ◌∙◌}
 use mathlib.Core.Bool.{true}
 use mathlib.Core.List.{List, [], map}
-use mathlib.Core.Option.{none}
 use Prim.Native.Nat.{ℕ, zero, suc, ◌*◌, ◌/◌, ◌<◌, ◌≤◌}
 use native.Mathlib.Decide.{dec_lt}
 use native.Mathlib.Nat.{div-eq_of_lt, div-le_of_le-mul, div-lt_iff_lt-mul, mul_comm, zero-div, zero-mod}
@@ -57,7 +57,7 @@ module _ (d : ℕ) (h : 0 < d) where
       go (yes k) b = let q : m / d < 1000 = (div-lt_iff_lt-mul h).1 b in rw (sub_below n (suc (m / d)) k) (record { sfits = omega arith })
       go (no k) b = rw (sub_above n (suc (m / d)) (omega arith)) (record { sfits = omega arith })
 
-module _ (r c d : ℕ) (g : List ℤ) (a : table_refusal r c d g ≡ none) where
+module _ (r c d : ℕ) (g : List ℤ) (a : table_refusal r c d g ≡ None) where
   sizes : Sized r c d (length g)
   sizes = accepted_sizes r c d g a
 

@@ -1,7 +1,7 @@
 -- The ways through the call. Assumes nothing.
+use Rattle.std.specs.Prelude.{Some, None}
 use mathlib.Core.Path.{◌≡◌, sym, ◌∙◌}
 use mathlib.Core.List.{List, [], ◌∷◌}
-use mathlib.Core.Option.{some, none}
 use Prim.Native.Nat.{ℕ, ◌*◌, ◌≤◌, ◌<◌}
 use lib.Dec.{ltb}
 use lib.IntN.{ℤ}
@@ -27,12 +27,12 @@ module _ (r c d : ℕ) (g : List ℤ) (room : ℕ) {k : Checked} (e : k ≡ chec
   buffer : List Test
   buffer = refuse Buffer (ltb room (r * c)) ∷ []
 
-  pub refused : {x : Refusal} → k ≡ Refused x → round_refusal r c d g room ≡ some x
+  pub refused : {x : Refusal} → k ≡ Refused x → round_refusal r c d g room ≡ Some x
   unfolding round_refusal check_of check_of_cells
   refused {x} h = due_first (table_tests r c d g) _ x (answered_refused r c d (due (table_tests r c d g)) x (sym h ∙ e))
 
   module _ {t : Table} (h : k ≡ Accepted t) where
-    nothing : table_refusal r c d g ≡ none
+    nothing : table_refusal r c d g ≡ None
     unfolding check_of check_of_cells table_refusal
     nothing = answered_nothing r c d (table_refusal r c d g) t (sym h ∙ e)
 
@@ -40,7 +40,7 @@ module _ (r c d : ℕ) (g : List ℤ) (room : ℕ) {k : Checked} (e : k ≡ chec
     unfolding check_of check_of_cells
     sizes = answered_sizes r c d (due (table_tests r c d g)) t (sym h ∙ e)
 
-    pub accepted : table_refusal t.rows t.columns t.denominator g ≡ none
+    pub accepted : table_refusal t.rows t.columns t.denominator g ≡ None
     accepted = rw sizes nothing
 
     pub few_rows : t.rows ≤ 12
@@ -52,10 +52,10 @@ module _ (r c d : ℕ) (g : List ℤ) (room : ℕ) {k : Checked} (e : k ≡ chec
     pub done : (old new : List ℤ) → new ≡ written (first_rounding t.rows t.columns t.denominator g) old → new ≡ written (first_rounding r c d g) old
     done old new f = rw sizes at f
 
-    pub short : room < t.rows * t.columns → round_refusal r c d g room ≡ some Buffer
+    pub short : room < t.rows * t.columns → round_refusal r c d g room ≡ Some Buffer
     unfolding round_refusal table_refusal due buffer
     short l = let n : room < r * c = rw sizes at l in due_second (table_tests r c d g) buffer nothing ∙ simp (lt-ltb room (r * c) n)
 
-    pub enough : t.rows * t.columns ≤ room → round_refusal r c d g room ≡ none
+    pub enough : t.rows * t.columns ≤ room → round_refusal r c d g room ≡ None
     unfolding round_refusal table_refusal due buffer
     enough l = let n : r * c ≤ room = rw sizes at l in due_second (table_tests r c d g) buffer nothing ∙ simp (le-ltb room (r * c) n)

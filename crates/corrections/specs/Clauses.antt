@@ -1,6 +1,5 @@
 -- What the functions inside require and promise. Assumes nothing.
-use Rattle.std.specs.Prelude.{◌≡◌, List, map, ℕ, ◌*◌, ◌<◌, ◌≤◌, ℤ, pos, ◌+ℤ◌, length, get_or}
-use Rattle.std.proofs.Math.Option.{none}
+use Rattle.std.specs.Prelude.{◌≡◌, List, map, ℕ, ◌*◌, ◌<◌, ◌≤◌, ℤ, pos, ◌+ℤ◌, length, get_or, None}
 use Rattle.std.specs.Int.{w16, w64}
 use Rattle.std.proofs.Common.{SFits}
 use Rattle.base.specs.Lists.{tabulate}
@@ -43,5 +42,5 @@ pub record CountsReady (d : ℕ) (g : List ℤ) (n : List ℕ) (out : List ℤ) 
 
 -- an accepted table of corrections, and room for its array
 pub record SheetReady (r c d : ℕ) (g counts : List ℤ) : Type 0 where
-  pub accepted : table_refusal r c d g ≡ none
+  pub accepted : table_refusal r c d g ≡ None
   pub room : r * c ≤ length counts

@@ -1,6 +1,5 @@
 -- On a table without a cell below zero the call answers as "rounding" does (specification, "The rounding of corrections"). Assumes nothing.
-use Rattle.std.specs.Prelude.{List, map, ℕ, ℤ, pos, length}
-use Rattle.std.proofs.Math.Option.{Option}
+use Rattle.std.specs.Prelude.{List, map, ℕ, ℤ, pos, length, Option}
 use Rattle.base.specs.Buffers.{written}
 use Rattle.refusals.specs.declared.Refusal.{Refusal}
 use Rattle.refusals.specs.Due.{after}

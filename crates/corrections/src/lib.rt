@@ -1,8 +1,7 @@
 // Rounding of stock corrections: the first controlled rounding of a table whose cells may be below zero.
 #![tactic(auto)]
 
-ghost use Rattle.std.specs.Prelude.{◌≡◌, List, map, ℕ, ℤ, pos, length};
-ghost use Rattle.std.proofs.Math.Option.{none};
+ghost use Rattle.std.specs.Prelude.{◌≡◌, List, map, ℕ, ℤ, pos, length, None};
 ghost use Rattle.base.specs.Buffers.{written};
 ghost use Rattle.refusals.specs.Due.{Answers};
 ghost use Rattle.corrections.specs.Rounding.{IsFirst, first_rounding};
@@ -56,7 +55,7 @@ pub fn round(rows: u32, columns: u32, denominator: u32, cells: &[i32], out: &mut
 // answer is that of the call "rounding". And the literal cases are as stated: single entries rounded, arrays that are controlled roundings and arrays that are
 // not, and calls.
 pub fn claims()
-    ensures exists { (r c d : ℕ) (g : List ℤ) → table_refusal r c d g ≡ none → IsFirst r c d g (first_rounding r c d g) }
+    ensures exists { (r c d : ℕ) (g : List ℤ) → table_refusal r c d g ≡ None → IsFirst r c d g (first_rounding r c d g) }
     ensures same { (r c d : ℕ) (g buffer : List ℕ) → reply_of r c d (map pos g) (map pos buffer) ≡ natural_reply r c d g buffer }
     ensures rounded { map rounded_of rounded ≡ rounded }
     ensures candidates { map rounds_sheet candidates ≡ map (λ x. x.rounds) candidates }

@@ -1,10 +1,10 @@
 -- Where the ranks of a call's list never fall, the refusal that is due is the lowest that applies; and a cell below zero. Assumes nothing.
+use Rattle.std.specs.Prelude.{Some}
 use mathlib.Core.Path.{◌≡◌, refl, sym, ap, ap₂, ◌∙◌, subst}
 use mathlib.Core.Bool.{Bool, true, false, not, ◌&&◌, ◌||◌}
 use mathlib.Core.List.Memᴰ.{head as here}
 use mathlib.Core.List.Memᴰ.{tail as there}
 use mathlib.Core.List.{List, [], ◌∷◌, zip_with, Memᴰ as Member}
-use mathlib.Core.Option.{some}
 use Prim.Native.Nat.{ℕ, ◌*◌, ◌≤◌}
 use native.Mathlib.Nat.{le_refl}
 use native.Mathlib.Omega.{arith}
@@ -64,14 +64,14 @@ module _ (rank : Refusal → ℕ) where
   behind t l y e (here q) = absurd (let z : ◌≡◌ {A = Bool} true false = ap (λ (u : Test). u.applies) q ∙ e in let n : ◌≡◌ {A = ℕ} 0 1 = cc in omega arith)
   behind t l y e (there m) = m
 
-  lowest : (l : List Test) → rising l ≡ true → (x : Refusal) → due l ≡ some x → Lowest rank l x
+  lowest : (l : List Test) → rising l ≡ true → (x : Refusal) → due l ≡ Some x → Lowest rank l x
   unfolding due
   lowest [] up x h = absurd (let z : ◌≡◌ {A = ℕ} 0 1 = cc in omega arith)
   lowest (t ∷ l) up x h = go t.applies refl (lowest l (above_rest t l up) x)
     where
-      go : (b : Bool) → t.applies ≡ b → (due l ≡ some x → Lowest rank l x) → Lowest rank (t ∷ l) x
+      go : (b : Bool) → t.applies ≡ b → (due l ≡ Some x → Lowest rank l x) → Lowest rank (t ∷ l) x
       go true e next =
-          let is : some t.refusal ≡ some x = sym (due_here t l e) ∙ h in
+          let is : Some t.refusal ≡ Some x = sym (due_here t l e) ∙ h in
           let r : t.refusal ≡ x = cc in
           record {
             applies = here (ap₂ refuse (sym r) (sym e));

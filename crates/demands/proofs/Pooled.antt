@@ -1,8 +1,8 @@
 -- Two tables that are pooled, and the pool then planned. Assumes nothing.
+use Rattle.std.specs.Prelude.{None}
 use mathlib.Core.Path.{◌≡◌, refl, ap, ◌∙◌}
 use mathlib.Core.Bool.{◌||◌}
 use mathlib.Core.List.{List, [], ◌∷◌}
-use mathlib.Core.Option.{none}
 use Prim.Native.Nat.{ℕ, ◌*◌, ◌≤◌}
 use native.Mathlib.Omega.{arith}
 use lib.ListN.{length}
@@ -22,10 +22,10 @@ use Rattle.pool.specs.Promises.{Pools}
 use Rattle.pool.proofs.Pooling as pool
 use Rattle.demands.specs.Pools.{multiple_in, cells_in, ServedPool}
 
-module _ (r c d : ℕ) (g : List ℕ) (e : ℕ) (h : List ℕ) (old new : Lent) (a : Answer) (free : pooling_refusal r c d g e h ≡ none)
+module _ (r c d : ℕ) (g : List ℕ) (e : ℕ) (h : List ℕ) (old new : Lent) (a : Answer) (free : pooling_refusal r c d g e h ≡ None)
     (number : 1 ≤ length old.denominator) (room : r * c ≤ length old.cells)
     (answers : Answers (pool_refusal r c d g e h (length old.denominator) (length old.cells)) (pooled_into d g e h old) old a new) where
-  none_due : pool_refusal r c d g e h (length old.denominator) (length old.cells) ≡ none
+  none_due : pool_refusal r c d g e h (length old.denominator) (length old.cells) ≡ None
   unfolding pool_refusal pooling_refusal due
   none_due =
       due_second (pooling_tests r c d g e h) (refuse Buffer (ltb (length old.denominator) 1 || ltb (length old.cells) (r * c)) ∷ []) free

@@ -1,8 +1,8 @@
 -- A run: a start and any list of draws, with its rounds. Assumes nothing.
+use Rattle.std.specs.Prelude.{Option, Some, None}
 use mathlib.Core.Path.{◌≡◌, refl, sym, ap, ap₂, ◌∙◌, subst}
 use mathlib.Core.Bool.{Bool, true, false, not, cond}
 use mathlib.Core.List.{List, [], ◌∷◌, ◌++◌, map, append_assoc, append-nil}
-use mathlib.Core.Option.{Option, some, none}
 use Prim.Native.Nat.{ℕ, ◌≤◌}
 use native.Mathlib.Omega.{arith}
 use lib.Dec.{leb, ltb, eqb}
@@ -70,15 +70,15 @@ set_if true = refl
 set_if false = refl
 
 -- an answer tells what was due
-done_none : (o : Option Refusal) → answer_of o ≡ Done → o ≡ none
+done_none : (o : Option Refusal) → answer_of o ≡ Done → o ≡ None
 unfolding answer_of
-done_none none e = refl
-done_none (some x) e = absurd (let z : ◌≡◌ {A = ℕ} 0 1 = cc in omega arith)
+done_none None e = refl
+done_none (Some x) e = absurd (let z : ◌≡◌ {A = ℕ} 0 1 = cc in omega arith)
 
-refused_some : (o : Option Refusal) {x : Refusal} → answer_of o ≡ Refused x → o ≡ some x
+refused_some : (o : Option Refusal) {x : Refusal} → answer_of o ≡ Refused x → o ≡ Some x
 unfolding answer_of
-refused_some none e = absurd (let z : ◌≡◌ {A = ℕ} 0 1 = cc in omega arith)
-refused_some (some y) e = cc
+refused_some None e = absurd (let z : ◌≡◌ {A = ℕ} 0 1 = cc in omega arith)
+refused_some (Some y) e = cc
 
 no_draw : {t : Made} {l : List Made} → [] ≡ t ∷ l → ⊥
 no_draw e = let z : ◌≡◌ {A = ℕ} 0 1 = cc in omega arith
@@ -97,7 +97,7 @@ a_number b o =
     omega (arith, denominator_is sized, sized_some sized)
 
 module _ (b : List ℕ) (o : Opens b) (s₀ : CampaignRecord) (room : room_for (decode b) s₀ ≡ true) where
-  start_due : (s : CampaignRecord) → room_for (decode b) s ≡ true → start_refusal b s ≡ none
+  start_due : (s : CampaignRecord) → room_for (decode b) s ≡ true → start_refusal b s ≡ None
   unfolding start_refusal open_refusal due
   start_due s h = due_second (open_tests b) (refuse Buffer (not (room_for (decode b) s)) ∷ []) o ∙ simp h
 
@@ -126,7 +126,7 @@ module _ (b : List ℕ) (o : Opens b) (s₀ : CampaignRecord) (room : room_for (
     due_by = due_second (start_tests b s) _ (start_due s room_now)
         ∙ same_due _ _ _ _ _ (ap not (fits_run (sound b o) run)) (ap (leb max_rounds) run.holds.claim.rounds) bit_test
 
-    passed : asked ≡ none → Unrefused (decode b) r x
+    passed : asked ≡ None → Unrefused (decode b) r x
     passed e =
         let d = sym due_by ∙ e in
         record {
@@ -136,7 +136,7 @@ module _ (b : List ℕ) (o : Opens b) (s₀ : CampaignRecord) (room : room_for (
           new = not_here _ _ (not_later _ _ (not_later _ _ (not_later _ _ d)));
         }
 
-    plain_draw : asked ≡ none → draw_refusal b x.number (length x.buffer) ≡ none
+    plain_draw : asked ≡ None → draw_refusal b x.number (length x.buffer) ≡ None
     unfolding draw_refusal open_refusal decode due
     plain_draw e =
         let t = passed e in
@@ -156,7 +156,7 @@ module _ (b : List ℕ) (o : Opens b) (s₀ : CampaignRecord) (room : room_for (
         → leb max_rounds (length r.completed) ≡ false → used r.current x.number ≡ false → (made b s x).answer ≡ Done
     unfolding made answer_of due
     is_done_lem long below going new =
-        let nothing : due (run_tests (decode b) r x) ≡ none = simp (long, below, going, new) in
+        let nothing : due (run_tests (decode b) r x) ≡ None = simp (long, below, going, new) in
         ap answer_of (due_by ∙ nothing)
 
     -- and what it leaves of the record
@@ -173,7 +173,7 @@ module _ (b : List ℕ) (o : Opens b) (s₀ : CampaignRecord) (room : room_for (
     }
 
     -- what stands in the buffer for the array after an accepted draw
-    front : asked ≡ none → take (cell_count (decode b)) (made b s x).result ≡ drawn_array b x.number
+    front : asked ≡ None → take (cell_count (decode b)) (made b s x).result ≡ drawn_array b x.number
     unfolding after
     front e = ap (take (cell_count (decode b))) (result_by e) ∙ written_front _ x.buffer (array_length (sound b o) (leb-false _ _ (passed e).below))
 
@@ -184,10 +184,10 @@ module _ (b : List ℕ) (o : Opens b) (s₀ : CampaignRecord) (room : room_for (
         go : (k : Option Refusal) → asked ≡ k
             → RunHolds (decode b) s₀ (h ++ (made b s x ∷ [])) (one_more (decode b).denominator r (made b s x))
             (after k (closed (decode b).denominator (taking (decode b) x.number s)) s)
-        go none e =
+        go None e =
             let t = passed e in
             step_accepted run room (a_number b o) (made b s x) (ap answer_of e) (leb-false _ _ t.below) (leb-false _ _ t.going) t.new (front e)
-        go (some y) e = step_refused run (made b s x) (ap answer_of e)
+        go (Some y) e = step_refused run (made b s x) (ap answer_of e)
 
   -- after the draws h, and a list of draws more
   pub run_holds : {h : List Made} {r : Rounds} {s : CampaignRecord} → RunHolds (decode b) s₀ h r s → (l : List Asked)

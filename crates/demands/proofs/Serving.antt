@@ -1,7 +1,7 @@
 -- The plan of every accepted table opens, and every list of draws on it is held to the claim. Assumes nothing.
+use Rattle.std.specs.Prelude.{None}
 use mathlib.Core.Path.{◌≡◌, refl, ap, ◌∙◌}
 use mathlib.Core.List.{List, [], ◌∷◌}
-use mathlib.Core.Option.{none}
 use Prim.Native.Nat.{ℕ, ◌≤◌}
 use lib.ListN.{length, take}
 use lib.Dec.{ltb}
@@ -19,9 +19,9 @@ use Rattle.table.proofs.Checks.{passed_all}
 use Rattle.demands.specs.Plans.{Served}
 use Rattle.demands.proofs.Campaigns.{claim}
 
-module _ (r c d : ℕ) (g old new : List ℕ) (p : Planned) (t : table_refusal r c d g ≡ none) (room : length (plan_bytes r c d g) ≤ length old)
+module _ (r c d : ℕ) (g old new : List ℕ) (p : Planned) (t : table_refusal r c d g ≡ None) (room : length (plan_bytes r c d g) ≤ length old)
     (a : PlanAnswers r c d g old p new) where
-  none_due : plan_refusal r c d g (length old) ≡ none
+  none_due : plan_refusal r c d g (length old) ≡ None
   unfolding plan_refusal table_refusal due
   none_due = due_second (table_tests r c d g) (refuse Buffer (ltb (length old) (length (plan_bytes r c d g))) ∷ []) t ∙ simp (le-ltb _ _ room)
 

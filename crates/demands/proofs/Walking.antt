@@ -1,4 +1,5 @@
 -- The walk of every accepted table of up to four by four ends, and holds each controlled rounding once, in rising order, and none besides. Assumes nothing.
+use Rattle.std.specs.Prelude.{Option, Some, None}
 use mathlib.Core.Path.{◌≡◌, refl, sym, ap₂, ◌∙◌}
 use mathlib.Core.Logic.{⊎_elim}
 use mathlib.Core.Bool.{true}
@@ -7,7 +8,6 @@ use mathlib.Core.List.Memᴰ.{head as here}
 use mathlib.Core.List.Memᴰ.{not-nil as member-none}
 use mathlib.Core.List.Memᴰ.{tail as there}
 use mathlib.Core.List.{List, [], ◌∷◌, Memᴰ as Member}
-use mathlib.Core.Option.{Option, some, none}
 use Prim.Native.Nat.{ℕ, zero, suc, ◌+◌, ◌-◌, ◌*◌, ◌^◌, ◌<◌, ◌≤◌}
 use native.Mathlib.Decide.{dec_lt}
 use native.Mathlib.Omega.{arith}
@@ -65,7 +65,7 @@ module _ (r c : ℕ) where
       go (no a) (yes b) = absurd (not_before_itself (in_order 0 r c (get_or l j [])) (rw e at (up j i b hi)))
       go (no a) (no b) = omega arith
 
-module _ (r c d : ℕ) (g : List ℕ) (h : table_refusal r c d g ≡ none) (hr : r ≤ 4) (hc : c ≤ 4) where
+module _ (r c d : ℕ) (g : List ℕ) (h : table_refusal r c d g ≡ None) (hr : r ≤ 4) (hc : c ≤ 4) where
   s : Shape r c g
   s = (passed_all r c d g h).shape
 
@@ -82,13 +82,13 @@ module _ (r c d : ℕ) (g : List ℕ) (h : table_refusal r c d g ≡ none) (hr :
       )
 
   module _ (n : List ℕ) (i : Rounds n) where
-    goes_on_is : (k : List ℕ) → Rounds k → next_rounding r c d g n ≡ some k → GoesOn r c d g n k
+    goes_on_is : (k : List ℕ) → Rounds k → next_rounding r c d g n ≡ Some k → GoesOn r c d g n k
     unfolding next_answer next_left after
     goes_on_is k j e buffer room =
         let nothing = nothing_next r c d g h hr hc n i (length buffer) room in
         (rw (nothing, e) refl, rw (nothing, e) (written_front k buffer (rounding_length s d k j)))
 
-    ends : next_rounding r c d g n ≡ none → Ends r c d g n
+    ends : next_rounding r c d g n ≡ None → Ends r c d g n
     unfolding next_answer next_left after
     ends e buffer room = let nothing = nothing_next r c d g h hr hc n i (length buffer) room in (rw (nothing, e) refl, rw (nothing, e) refl)
 
@@ -121,7 +121,7 @@ module _ (r c d : ℕ) (g : List ℕ) (h : table_refusal r c d g ≡ none) (hr :
     later : (m : List ℕ) → Member m list → Before r c n m
     up : Rising r c list
 
-  at_last : (n : List ℕ) → Rounds n → (fuel : ℕ) → next_rounding r c d g n ≡ none → IsLast r c d g n → From n fuel
+  at_last : (n : List ℕ) → Rounds n → (fuel : ℕ) → next_rounding r c d g n ≡ None → IsLast r c d g n → From n fuel
   at_last n i fuel e last = record {
     list = [];
     onward = ends n i e;
@@ -132,7 +132,7 @@ module _ (r c d : ℕ) (g : List ℕ) (h : table_refusal r c d g ≡ none) (hr :
     up = rising_none r c;
   }
 
-  at_next : (n : List ℕ) → Rounds n → (fuel : ℕ) (k : List ℕ) → next_rounding r c d g n ≡ some k → IsNext r c d g n k → From k fuel → From n (suc fuel)
+  at_next : (n : List ℕ) → Rounds n → (fuel : ℕ) (k : List ℕ) → next_rounding r c d g n ≡ Some k → IsNext r c d g n k → From k fuel → From n (suc fuel)
   at_next n i fuel k e next rest = record {
     list = k ∷ rest.list;
     onward = (goes_on_is n i k next.rounding e, rest.onward);
@@ -150,14 +150,14 @@ module _ (r c d : ℕ) (g : List ℕ) (h : table_refusal r c d g ≡ none) (hr :
   from zero n i l = go (next_rounding r c d g n) refl (next_follows s d n)
     where
       go : (o : Option (List ℕ)) → next_rounding r c d g n ≡ o → Follows r c d g n o → From n zero
-      go none e f = at_last n i zero e f
-      go (some k) e f = absurd (let a = rises n k i f.rounding f.after in let b = below k f.rounding in omega arith)
+      go None e f = at_last n i zero e f
+      go (Some k) e f = absurd (let a = rises n k i f.rounding f.after in let b = below k f.rounding in omega arith)
   from (suc fuel) n i l = go (next_rounding r c d g n) refl (next_follows s d n) (λ k j b. from fuel k j (let a = rises n k i j b in omega arith))
     where
       go : (o : Option (List ℕ)) → next_rounding r c d g n ≡ o → Follows r c d g n o
           → ((k : List ℕ) → Rounds k → Before r c n k → From k fuel) → From n (suc fuel)
-      go none e f next = at_last n i (suc fuel) e f
-      go (some k) e f next = at_next n i fuel k e f (next k f.rounding f.after)
+      go None e f next = at_last n i (suc fuel) e f
+      go (Some k) e f next = at_next n i fuel k e f (next k f.rounding f.after)
 
   -- two walks from one array on are the same
   buffer : List ℕ

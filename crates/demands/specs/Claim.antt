@@ -1,8 +1,7 @@
 -- What every run of a campaign is held to (specification, "What every campaign is held to"). `started` and `made` are the definitions that the code of a start and of a
 -- campaign draw is equated with. Assumes nothing.
-use Rattle.std.specs.Prelude.{◌≡◌, true, false, cond, ℕ, ◌+◌, ◌-◌, ◌*◌, ◌<◌, ◌≤◌, length, get_or, drop, leb, ltb}
+use Rattle.std.specs.Prelude.{◌≡◌, true, false, cond, ℕ, ◌+◌, ◌-◌, ◌*◌, ◌<◌, ◌≤◌, length, get_or, drop, leb, ltb, None}
 use mathlib.Core.List.{List, [], ◌∷◌, ◌++◌, map, Memᴰ as Member}
-use Rattle.std.proofs.Math.Option.{none}
 use Rattle.base.specs.Buffers.{written}
 use Rattle.table.specs.Table.{total}
 use Rattle.table.specs.Whole.{down, up}
@@ -34,7 +33,7 @@ pub record DrawClaim (b : List ℕ) (earlier : Rounds) (t : Made) : Type 0 where
   pub number : answer_number t.answer ≡ number_due (decode b) (length earlier.completed) earlier.current t.asked
   -- an accepted draw wrote the array that belongs to its number, which is what the plain draw gives, and left its buffer's rest
   pub wrote : t.answer ≡ Done
-      → (draw_refusal b t.asked.number (length t.asked.buffer) ≡ none) × (t.result ≡ written (drawn_array b t.asked.number) t.asked.buffer)
+      → (draw_refusal b t.asked.number (length t.asked.buffer) ≡ None) × (t.result ≡ written (drawn_array b t.asked.number) t.asked.buffer)
   -- a refused draw left buffer and record as they were
   pub kept : (x : Refusal) → t.answer ≡ Refused x → (t.result ≡ t.asked.buffer) × (t.left ≡ t.given)
 

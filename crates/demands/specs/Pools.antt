@@ -1,6 +1,5 @@
 -- What two tables that are pooled, and the pool then planned, serve for (specification, "Pooling two tables"). Assumes nothing.
-use Rattle.std.specs.Prelude.{◌≡◌, List, map, ℕ, ◌*◌, get_or, take}
-use Rattle.std.proofs.Math.Option.{none}
+use Rattle.std.specs.Prelude.{◌≡◌, List, map, ℕ, ◌*◌, get_or, take, None}
 use Rattle.base.specs.Lists.{sum}
 use Rattle.refusals.specs.declared.Answer.{Answer}
 use Rattle.refusals.specs.declared.Answer.TheVariants.{Done}
@@ -30,6 +29,6 @@ pub record ServedPool (r c d : ℕ) (g : List ℕ) (e : ℕ) (h : List ℕ) (ans
   -- at any places, so for a cell, a row, a column and the grand total, an expected count is the sum of the two
   pub exact : (s : List ℕ) → AddsUp (total (cells_in r c new) s) (multiple_in new) (total g s) d (total h s) e
   -- planning the pool meets none of 1 to 4, so it is planned like any other table
-  pub accepted : table_refusal r c (multiple_in new) (cells_in r c new) ≡ none
+  pub accepted : table_refusal r c (multiple_in new) (cells_in r c new) ≡ None
   -- and an expected count in its plan is the sum of the two
   pub planned : (s : List ℕ) → AddsUp (planned_sum r c new s) (multiple_in new) (total g s) d (total h s) e

@@ -1,7 +1,6 @@
 -- Which refusal a call returns (specification, "Refusals"), for each call's list of conditions. Assumes nothing.
-use Rattle.std.specs.Prelude.{◌≡◌, true, ℕ, ◌≤◌, ℤ}
+use Rattle.std.specs.Prelude.{◌≡◌, true, ℕ, ◌≤◌, ℤ, Option, Some, None}
 use mathlib.Core.List.{List, Memᴰ as Member}
-use Rattle.std.proofs.Math.Option.{Option, some, none}
 use Rattle.refusals.specs.Numbers.{number_of}
 use Rattle.refusals.specs.Places.{order, order_on_plan, place_in}
 use Rattle.refusals.specs.declared.Refusal.{Refusal}
@@ -28,8 +27,8 @@ pub record Lowest (rank : Refusal → ℕ) (l : List Test) (x : Refusal) : Type 
 
 -- what is returned applies, and nothing that ranks lower does; where nothing is returned, no condition holds
 pub record Refuses (rank : Refusal → ℕ) (l : List Test) (o : Option Refusal) : Type 0 where
-  pub refused : (x : Refusal) → o ≡ some x → Lowest rank l x
-  pub accepted : o ≡ none → none_applies l ≡ true
+  pub refused : (x : Refusal) → o ≡ Some x → Lowest rank l x
+  pub accepted : o ≡ None → none_applies l ≡ true
 
 -- so of every call, whatever it is lent: the lowest number
 pub record EachRefuses : Type 0 where
@@ -52,10 +51,10 @@ pub record EachRefuses : Type 0 where
 
 -- and a cell below zero, where none of 1 to 3 applies, is 4 in every call that takes a table and no correction sheet; in a walk, where 15 does not apply either
 pub record BelowZeroRefused : Type 0 where
-  pub rounding : (r c d : ℕ) (g : List ℕ) (room : ℕ) → BelowZero r c d g → round_refusal r c d g room ≡ some LargeCell
-  pub plan : (r c d : ℕ) (g : List ℕ) (room : ℕ) → BelowZero r c d g → plan_refusal r c d g room ≡ some LargeCell
-  pub reason : (r c d : ℕ) (g : List ℕ) (k room : ℕ) → BelowZero r c d g → reply_refusal r c d g k room ≡ some LargeCell
+  pub rounding : (r c d : ℕ) (g : List ℕ) (room : ℕ) → BelowZero r c d g → round_refusal r c d g room ≡ Some LargeCell
+  pub plan : (r c d : ℕ) (g : List ℕ) (room : ℕ) → BelowZero r c d g → plan_refusal r c d g room ≡ Some LargeCell
+  pub reason : (r c d : ℕ) (g : List ℕ) (k room : ℕ) → BelowZero r c d g → reply_refusal r c d g k room ≡ Some LargeCell
   pub pool : (r c d : ℕ) (g : List ℕ) (e : ℕ) (h : List ℕ) (numbers room : ℕ) → EitherBelowZero r c d g e h
-      → pool_refusal r c d g e h numbers room ≡ some LargeCell
-  pub walk_first : (r c d : ℕ) (g : List ℕ) (room : ℕ) → r ≤ max_side → c ≤ max_side → BelowZero r c d g → first_refusal r c d g room ≡ some LargeCell
-  pub walk_next : (r c d : ℕ) (g n : List ℕ) (room : ℕ) → r ≤ max_side → c ≤ max_side → BelowZero r c d g → next_refusal r c d g n room ≡ some LargeCell
+      → pool_refusal r c d g e h numbers room ≡ Some LargeCell
+  pub walk_first : (r c d : ℕ) (g : List ℕ) (room : ℕ) → r ≤ max_side → c ≤ max_side → BelowZero r c d g → first_refusal r c d g room ≡ Some LargeCell
+  pub walk_next : (r c d : ℕ) (g n : List ℕ) (room : ℕ) → r ≤ max_side → c ≤ max_side → BelowZero r c d g → next_refusal r c d g n room ≡ Some LargeCell

@@ -10,8 +10,7 @@
 // of corrections, in `corrections::claims`, with its refusals here.
 #![tactic(auto)]
 
-ghost use Rattle.std.specs.Prelude.{◌≡◌, true, List, map, ℕ, ◌*◌, ◌<◌, ◌≤◌, length};
-ghost use Rattle.std.proofs.Math.Option.{none};
+ghost use Rattle.std.specs.Prelude.{◌≡◌, true, List, map, ℕ, ◌*◌, ◌<◌, ◌≤◌, length, None};
 ghost use Rattle.base.specs.Lists.{sum};
 ghost use Rattle.refusals.specs.declared.Answer.{Answer};
 ghost use Rattle.refusals.specs.Due.{Answers};
@@ -46,9 +45,9 @@ pub fn claims()
     // a cell below zero, handed over as its bits
     ensures below_zero { BelowZeroRefused }
     // what the plan of every accepted table keeps
-    ensures plans { (r c d : ℕ) (g : List ℕ) → table_refusal r c d g ≡ none → Promises r c d g }
+    ensures plans { (r c d : ℕ) (g : List ℕ) → table_refusal r c d g ≡ None → Promises r c d g }
     // which entry set the weight of each of its arrays
-    ensures reasons { (r c d : ℕ) (g : List ℕ) (k : ℕ) → reason_refusal r c d g k ≡ none → Explained r c d g k }
+    ensures reasons { (r c d : ℕ) (g : List ℕ) (k : ℕ) → reason_refusal r c d g k ≡ None → Explained r c d g k }
     // bytes open just if they meet the conditions
     ensures opens { (b : List ℕ) → (Opens b → Conditions b) × (Conditions b → Opens b) }
     // every list of draws after a start, on any plan that opens
@@ -56,15 +55,15 @@ pub fn claims()
     // and every list of draws from a record on that fits, wherever it was stored
     ensures resumes { (b : List ℕ) → Opens b → Resumes b }
     // and on what the call "plan" gives for every accepted table, in a buffer with room
-    ensures serves { (r c d : ℕ) (g old new : List ℕ) (p : Planned) → table_refusal r c d g ≡ none → length (plan_bytes r c d g) ≤ length old
+    ensures serves { (r c d : ℕ) (g old new : List ℕ) (p : Planned) → table_refusal r c d g ≡ None → length (plan_bytes r c d g) ≤ length old
         → PlanAnswers r c d g old p new → Served r c d g p new }
     // two tables that are pooled into buffers with room, and the pool then planned
-    ensures pools { (r c d : ℕ) (g : List ℕ) (e : ℕ) (h : List ℕ) (old new : Lent) (a : Answer) → pooling_refusal r c d g e h ≡ none
+    ensures pools { (r c d : ℕ) (g : List ℕ) (e : ℕ) (h : List ℕ) (old new : Lent) (a : Answer) → pooling_refusal r c d g e h ≡ None
         → 1 ≤ length old.denominator → r * c ≤ length old.cells
         → Answers (pool_refusal r c d g e h (length old.denominator) (length old.cells)) (pooled_into d g e h old) old a new
         → ServedPool r c d g e h a new }
     // the list that the two calls of a walk make
-    ensures walks { (r c d : ℕ) (g : List ℕ) → table_refusal r c d g ≡ none → r ≤ max_side → c ≤ max_side → Walked r c d g }
+    ensures walks { (r c d : ℕ) (g : List ℕ) → table_refusal r c d g ≡ None → r ≤ max_side → c ≤ max_side → Walked r c d g }
     // sentences of the specification that follow from its definitions: the number of entries, a whole entry's limit, the array of a draw number
     ensures entries { (r c : ℕ) → r ≤ max_rows → c ≤ max_columns → length (entry_places r c) ≤ max_entries }
     ensures whole_limit { (w e : ℕ) → whole w e ≡ true → limit_of w e (down w e) ≡ w }

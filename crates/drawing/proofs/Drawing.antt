@@ -1,7 +1,7 @@
 -- What drawing from a plan answers and writes. Assumes nothing.
+use Rattle.std.specs.Prelude.{Some, None}
 use mathlib.Core.Path.{◌≡◌, sym, ap, ◌∙◌}
 use mathlib.Core.List.{List, [], ◌∷◌}
-use mathlib.Core.Option.{some, none}
 use Prim.Native.Nat.{ℕ, suc, ◌+◌, ◌*◌, ◌-◌, ◌<◌, ◌≤◌}
 use native.Mathlib.Numerals.{add-one}
 use native.Mathlib.Omega.{arith}
@@ -76,7 +76,7 @@ module _ {s : Sizes} {b : List ℕ} {d : ℕ} {counts : List ℕ} (h : Drawing s
         q ∙ ap (λ (l : List ℕ). written l old) (sym (array_for_lem (decode b).arrays d k p.there p.before more))
 
 -- what is due of a draw with a buffer of m counts
-pub refused_first : (b : List ℕ) (d m : ℕ) (x : Refusal) → open_answer b ≡ opened.Refused x → draw_refusal b d m ≡ some x
+pub refused_first : (b : List ℕ) (d m : ℕ) (x : Refusal) → open_answer b ≡ opened.Refused x → draw_refusal b d m ≡ Some x
 unfolding draw_refusal open_refusal
 refused_first b d m x e = due_first (open_tests b) _ x (is_refused b x e)
 
@@ -85,15 +85,15 @@ module _ (b : List ℕ) (d m : ℕ) (s : Sizes) (o : open_answer b ≡ opened.Pl
   unfolding draw_refusal open_refusal
   draw_by = let i = is_open b s o in rw i.sizes (due_second (open_tests b) _ i.opens)
 
-  pub too_short : m < s.rows * s.columns → draw_refusal b d m ≡ some Buffer
+  pub too_short : m < s.rows * s.columns → draw_refusal b d m ≡ Some Buffer
   unfolding due
   too_short h = draw_by ∙ simp (lt-ltb _ _ h)
 
   module _ (h : s.rows * s.columns ≤ m) where
-    pub not_below : s.denominator ≤ d → draw_refusal b d m ≡ some Number
+    pub not_below : s.denominator ≤ d → draw_refusal b d m ≡ Some Number
     unfolding due
     not_below l = draw_by ∙ simp (le-ltb _ _ h, le-leb _ _ l)
 
-    pub drawn : d < s.denominator → draw_refusal b d m ≡ none
+    pub drawn : d < s.denominator → draw_refusal b d m ≡ None
     unfolding due
     drawn l = draw_by ∙ simp (le-ltb _ _ h, lt-leb _ _ l)

@@ -1,8 +1,8 @@
 -- Every table has a controlled rounding (Cox and Ernst 1982), and so a first one. Assumes nothing.
+use Rattle.std.specs.Prelude.{None}
 use mathlib.Core.Path.{◌≡◌, ap, ◌∙◌}
 use mathlib.Core.Bool.{true, cond}
 use mathlib.Core.List.{List}
-use mathlib.Core.Option.{none}
 use Prim.Native.Nat.{ℕ, ◌+◌, ◌-◌, ◌*◌, ◌/◌, ◌%◌, ◌<◌}
 use native.Mathlib.Omega.{arith}
 use lib.Dec.{eqb}
@@ -87,5 +87,5 @@ module _ {r c : ℕ} {g : List ℕ} (s : Shape r c g) {w : ℕ} (wp : 0 < w) whe
   first_exists = not_none_first s w some_rounding
 
 -- so of every accepted table
-pub accepted_exists : (r c d : ℕ) (g : List ℕ) → table_refusal r c d g ≡ none → IsFirst r c d g (first_rounding r c d g)
+pub accepted_exists : (r c d : ℕ) (g : List ℕ) → table_refusal r c d g ≡ None → IsFirst r c d g (first_rounding r c d g)
 accepted_exists r c d g h = let t = passed_all r c d g h in first_exists t.shape t.some_denominator

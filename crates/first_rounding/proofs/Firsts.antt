@@ -1,9 +1,9 @@
 -- The search for the first list of counts finds it, and only it. Assumes nothing.
+use Rattle.std.specs.Prelude.{Option, Some, None}
 use mathlib.Core.Path.{◌≡◌, refl, sym, ap, ◌∙◌}
 use mathlib.Core.Logic.{◌⊎◌, inl, inr, ⊎_elim}
 use mathlib.Core.Bool.{Bool, true, false, false≢true}
 use mathlib.Core.List.{List, [], ◌∷◌}
-use mathlib.Core.Option.{Option, some, none}
 use Prim.Native.Nat.{ℕ, suc, ◌≤◌, ◌<◌}
 use native.Mathlib.Nat.{eq-or-lt_of_le, lt_of_not-le}
 use native.Mathlib.Decide.{dec_le}
@@ -34,8 +34,8 @@ pub record FirstWithin (test : List ℕ → Bool) (cs : List (Choice ℕ)) (n : 
   pub first : (k : List ℕ) → Within cs k → test k ≡ true → Smaller ◌<◌ k n → ⊥
 
 abbrev pub Answer : (List ℕ → Bool) → List (Choice ℕ) → Option (List ℕ) → Type 0
-Answer test cs (some n) = FirstWithin test cs n
-Answer test cs none = (k : List ℕ) → Within cs k → test k ≡ true → ⊥
+Answer test cs (Some n) = FirstWithin test cs n
+Answer test cs None = (k : List ℕ) → Within cs k → test k ≡ true → ⊥
 
 module _ (test : List ℕ → Bool) (c : Choice ℕ) (cs : List (Choice ℕ)) (o : c.low ≤ c.high) where
   after_low : (r : List ℕ) → FirstWithin (λ r. test (c.low ∷ r)) cs r
@@ -57,9 +57,9 @@ module _ (test : List ℕ → Bool) (c : Choice ℕ) (cs : List (Choice ℕ)) (o
 
   join : (u v : Option (List ℕ)) → Answer (λ r. test (c.low ∷ r)) cs u → Answer (λ r. test (c.high ∷ r)) cs v
       → Answer test (c ∷ cs) (either c.low c.high u v)
-  join (some r) v f g = record { passes = f.passes; within = (inl refl, f.within); first = after_low r f }
-  join none (some r) f g = record { passes = g.passes; within = (inr refl, g.within); first = after_high r f g }
-  join none none f g = neither f g
+  join (Some r) v f g = record { passes = f.passes; within = (inl refl, f.within); first = after_low r f }
+  join None (Some r) f g = record { passes = g.passes; within = (inr refl, g.within); first = after_high r f g }
+  join None None f g = neither f g
 
 last : (test : List ℕ → Bool) (b : Bool) → test [] ≡ b → Answer test [] (empty_if b)
 last test true e = record { passes = e; within = tt; first = none_before }
@@ -107,9 +107,9 @@ unique test cs k n f g =
     (one_before cs k n f.within g.within)
 
 -- the search finds the list that is first
-pub found_first : (test : List ℕ → Bool) (cs : List (Choice ℕ)) → Ordered cs → (n : List ℕ) → FirstWithin test cs n → first_of test cs ≡ some n
+pub found_first : (test : List ℕ → Bool) (cs : List (Choice ℕ)) → Ordered cs → (n : List ℕ) → FirstWithin test cs n → first_of test cs ≡ Some n
 found_first test cs o n = back (first_of test cs) (answer test cs o)
   where
-    back : (u : Option (List ℕ)) → Answer test cs u → FirstWithin test cs n → u ≡ some n
-    back none a f = absurd (a n f.within f.passes)
-    back (some k) a f = ap some (unique test cs k n a f)
+    back : (u : Option (List ℕ)) → Answer test cs u → FirstWithin test cs n → u ≡ Some n
+    back None a f = absurd (a n f.within f.passes)
+    back (Some k) a f = ap Some (unique test cs k n a f)

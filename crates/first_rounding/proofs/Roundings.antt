@@ -1,9 +1,9 @@
 -- Controlled roundings, at each place of the grid; and the search finds the first. Assumes nothing.
+use Rattle.std.specs.Prelude.{Option, Some, None}
 use mathlib.Core.Path.{◌≡◌, sym, ap, ◌∙◌}
 use mathlib.Core.Logic.{◌⊎◌, inl, inr}
 use mathlib.Core.Bool.{Bool, true}
 use mathlib.Core.List.{List, [], ◌∷◌, map}
-use mathlib.Core.Option.{Option, some, none}
 use Prim.Native.Nat.{ℕ, suc, ◌+◌, ◌*◌, ◌<◌, suc-le-suc}
 use native.Mathlib.Nat.{div-le_self}
 use native.Mathlib.Decide.{ℕ_discrete}
@@ -85,7 +85,7 @@ module _ {r c : ℕ} {g : List ℕ} (s : Shape r c g) (w : ℕ) where
     pub back : array_of 0 r c (in_order 0 r c n) ≡ n
     back = array_of_order 0 s n (rounding_length s w n f.rounding)
 
-    pub finds : first_of (λ l. is_rounding (two_ways r c) w g (array_of 0 r c l)) (map (choice w) (in_order 0 r c g)) ≡ some (in_order 0 r c n)
+    pub finds : first_of (λ l. is_rounding (two_ways r c) w g (array_of 0 r c l)) (map (choice w) (in_order 0 r c g)) ≡ Some (in_order 0 r c n)
     finds = found_first (λ l. is_rounding (two_ways r c) w g (array_of 0 r c l)) (map (choice w) (in_order 0 r c g)) (ordered w (in_order 0 r c g)) (in_order 0 r c n)
         (record {
           passes = rw back f.rounding;
@@ -112,8 +112,8 @@ module _ {r c : ℕ} {g : List ℕ} (s : Shape r c g) (w : ℕ) where
       passes n h = rw (array_of_order 0 s n (rounding_length s w n h)) h
 
       go : (u : Option (List ℕ)) → Answer test choices u → IsFirst r c w g (array_of 0 r c (found u))
-      go none a = absurd (some_one (λ n h. a (in_order 0 r c n) (made_of n h) (passes n h)))
-      go (some l) a = record {
+      go None a = absurd (some_one (λ n h. a (in_order 0 r c n) (made_of n h) (passes n h)))
+      go (Some l) a = record {
         rounding = a.passes;
         first = λ k h b. a.first (in_order 0 r c k) (made_of k h) (passes k h) (rw (order_of_array 0 s l (made_length l a.within)) at b);
       }

@@ -1,6 +1,5 @@
 -- The order of arrays, and a search for the first of them (specification, "The rounding"), whatever kind of number a count is. Assumes nothing.
-use Rattle.std.specs.Prelude.{◌≡◌, ◌⊎◌, Bool, true, false, List, [], ◌∷◌, ℕ, ◌+◌, ◌*◌, ◌/◌, ◌%◌, ◌<◌, get_or}
-use Rattle.std.proofs.Math.Option.{Option, some, none}
+use Rattle.std.specs.Prelude.{◌≡◌, ◌⊎◌, Bool, true, false, List, [], ◌∷◌, ℕ, ◌+◌, ◌*◌, ◌/◌, ◌%◌, ◌<◌, get_or, Option, Some, None}
 use Rattle.base.specs.Lists.{tabulate}
 use Rattle.cell_order.specs.Order.{nth_row, nth_column, rank}
 
@@ -28,19 +27,19 @@ pub record Choice (A : Type 0) : Type 0 where
 
 -- the low count with what follows it, else the high one
 abbrev pub either : {A : Type 0} → A → A → Option (List A) → Option (List A) → Option (List A)
-either l h (some n) v = some (l ∷ n)
-either l h none (some n) = some (h ∷ n)
-either l h none none = none
+either l h (Some n) v = Some (l ∷ n)
+either l h None (Some n) = Some (h ∷ n)
+either l h None None = None
 
 -- the empty list, if it passes
 abbrev pub empty_if : {A : Type 0} → Bool → Option (List A)
-empty_if true = some []
-empty_if false = none
+empty_if true = Some []
+empty_if false = None
 
 -- the counts that a search found, if any
 abbrev pub found : {A : Type 0} → Option (List A) → List A
-found (some n) = n
-found none = []
+found (Some n) = n
+found None = []
 
 -- the first list of all those made of such counts that pass a test: at each place the smaller count is tried first, with all that can follow it
 unfoldable pub first_of : {A : Type 0} → (List A → Bool) → List (Choice A) → Option (List A)

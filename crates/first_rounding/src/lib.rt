@@ -1,8 +1,7 @@
 // The first controlled rounding of a table, in the stated order: that there is one, and finding it for a table that is held as a grid.
 #![tactic(auto)]
 
-ghost use Rattle.std.specs.Prelude.{◌≡◌, List, ℕ};
-ghost use Rattle.std.proofs.Math.Option.{none};
+ghost use Rattle.std.specs.Prelude.{◌≡◌, List, ℕ, None};
 ghost use Rattle.table.specs.Check.{table_refusal};
 ghost use Rattle.first_rounding.specs.First.{IsFirst, first_rounding};
 ghost use Rattle.first_rounding.specs.Clauses.{GridReady, rounded_down, RoundedGrid};
@@ -30,5 +29,5 @@ pub fn round_grid(e: &[u64; 169], w: u64, low: &mut [u64; 169], n: &mut [u64; 16
 
 // Every accepted table has a controlled rounding, and the search of the definition finds the first of them.
 pub fn claims()
-    ensures { (r c d : ℕ) (g : List ℕ) → table_refusal r c d g ≡ none → IsFirst r c d g (first_rounding r c d g) }
+    ensures { (r c d : ℕ) (g : List ℕ) → table_refusal r c d g ≡ None → IsFirst r c d g (first_rounding r c d g) }
 {}

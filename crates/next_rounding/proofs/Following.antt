@@ -1,9 +1,9 @@
 -- What the search of the definition finds follows, and nothing else does. Assumes nothing.
+use Rattle.std.specs.Prelude.{Option, Some, None}
 use mathlib.Core.Path.{◌≡◌, refl, sym, ap, ◌∙◌}
 use mathlib.Core.Logic.{◌⊎◌, inl, inr, ⊎_elim}
 use mathlib.Core.Bool.{Bool, true, ◌&&◌}
 use mathlib.Core.List.{List, map}
-use mathlib.Core.Option.{Option, some, none}
 use Prim.Native.Nat.{ℕ}
 use Rattle.base.proofs.Lists.{and_left, and_right, and_both}
 use Rattle.table.specs.Clauses.{Shape}
@@ -31,11 +31,11 @@ module _ {r c : ℕ} {g : List ℕ} (s : Shape r c g) (w : ℕ) where
 
   -- only one array or nothing follows
   pub one_follows : (n : List ℕ) (a b : Option (List ℕ)) → Follows r c w g n a → Follows r c w g n b → a ≡ b
-  one_follows n none none p q = refl
-  one_follows n none (some k) p q = absurd (p.none_after k q.rounding q.after)
-  one_follows n (some k) none p q = absurd (q.none_after k p.rounding p.after)
-  one_follows n (some k) (some m) p q =
-      ⊎_elim (λ e. ap some e)
+  one_follows n None None p q = refl
+  one_follows n None (Some k) p q = absurd (p.none_after k q.rounding q.after)
+  one_follows n (Some k) None p q = absurd (q.none_after k p.rounding p.after)
+  one_follows n (Some k) (Some m) p q =
+      ⊎_elim (λ e. ap Some e)
       (⊎_elim (λ b. absurd (q.none_between k p.rounding p.after b)) (λ b. absurd (p.none_between m q.rounding q.after b)))
       (one_first k m p.rounding q.rounding)
 
@@ -53,8 +53,8 @@ module _ {r c : ℕ} {g : List ℕ} (s : Shape r c g) (w : ℕ) where
 
     follows : (u : Option (List ℕ)) → Answer test choices u → Follows r c w g n (array_in r c u)
     unfolding test choices
-    follows none a = record { none_after = λ m h b. a (in_order 0 r c m) (made_of s w m h) (passes m h b) }
-    follows (some l) a =
+    follows None a = record { none_after = λ m h b. a (in_order 0 r c m) (made_of s w m h) (passes m h b) }
+    follows (Some l) a =
         let order : in_order 0 r c (array_of 0 r c l) ≡ l = order_of_array 0 s l (made_length s w l a.within) in
         record {
           rounding = and_right (is_smaller (in_order 0 r c n) l) (is_rounding (two_ways r c) w g (array_of 0 r c l)) a.passes;

@@ -1,8 +1,8 @@
 -- The first array after a controlled rounding that lies between the bounds is the next one. Assumes nothing.
+use Rattle.std.specs.Prelude.{Option, Some, None}
 use mathlib.Core.Path.{◌≡◌, refl, sym, ap, ◌∙◌}
 use mathlib.Core.Bool.{true, false, false≢true}
 use mathlib.Core.List.{List}
-use mathlib.Core.Option.{Option, some, none}
 use Prim.Native.Nat.{ℕ, ◌+◌, ◌*◌, ◌%◌, ◌^◌, ◌<◌, ◌≤◌}
 use native.Mathlib.Nat.{div-le_of_le-mul, mul_comm}
 use native.Mathlib.Omega.{arith}
@@ -80,10 +80,10 @@ module _ {r c d : ℕ} {g n counts : List ℕ} (ready : NextReady r c d g n coun
           let passed : passes r c low high (number_in r c low k) ≡ true = passes_is (number_in r c low k) ∙ ap (is_rounding (two_ways r c) d g) array ∙ h in
           false≢true (sym (f.skipped (number_in r c low k) (omega arith) l) ∙ passed)
 
-      last : end ≤ x → Follows r c d g n none
+      last : end ≤ x → Follows r c d g n None
       last h = record { none_after = λ k i after. not_skipped k i after (omega (arith, number_below ready.table.shape d low low_is k i)) }
 
-      next : x < end → Follows r c d g n (some (numbered r c low x))
+      next : x < end → Follows r c d g n (Some (numbered r c low x))
       next h =
           let rounds : is_rounding (two_ways r c) d g (numbered r c low x) ≡ true = sym (passes_is x) ∙ f.passes h in
           let number : number_in r c low (numbered r c low x) ≡ x = number_of_array ready.table.shape low x (omega arith) in
@@ -98,7 +98,7 @@ module _ {r c d : ℕ} {g n counts : List ℕ} (ready : NextReady r c d g n coun
       is_next o h = one_follows ready.table.shape d n (next_rounding r c d g n) o (next_follows ready.table.shape d n) h
 
       pub not_found : end ≤ x → Found (next_rounding r c d g n) counts false counts
-      not_found h = rw (is_next none (last h)) (record { answer = refl; left = refl })
+      not_found h = rw (is_next None (last h)) (record { answer = refl; left = refl })
 
       pub found : x < end → {new : List ℕ} → new ≡ written (numbered r c low x) counts → Found (next_rounding r c d g n) counts true new
-      found h w = rw (is_next (some (numbered r c low x)) (next h)) (record { answer = refl; left = w })
+      found h w = rw (is_next (Some (numbered r c low x)) (next h)) (record { answer = refl; left = w })

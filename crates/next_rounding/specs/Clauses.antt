@@ -1,7 +1,6 @@
 -- What the functions inside require and promise: arrays by number. The counts of an array are those rounded down, each with a binary digit of its number added, of
 -- which the first cell in the order of cells has the highest; so the order of arrays is that of their numbers. Assumes nothing.
-use Rattle.std.specs.Prelude.{◌≡◌, Bool, true, false, List, ℕ, zero, suc, ◌+◌, ◌-◌, ◌*◌, ◌/◌, ◌%◌, ◌^◌, ◌<◌, ◌≤◌, length, get_or}
-use Rattle.std.proofs.Math.Option.{Option, some, none}
+use Rattle.std.specs.Prelude.{◌≡◌, Bool, true, false, List, ℕ, zero, suc, ◌+◌, ◌-◌, ◌*◌, ◌/◌, ◌%◌, ◌^◌, ◌<◌, ◌≤◌, length, get_or, Option, Some, None}
 use Rattle.base.specs.Lists.{tabulate}
 use Rattle.cell_order.specs.Order.{nth_row, nth_column, rank}
 use Rattle.table.specs.Table.{entry_places}
@@ -91,8 +90,8 @@ pub record NextReady (r c d : ℕ) (g n counts : List ℕ) : Type 0 where
 
 -- whether something follows, and the buffer with it
 abbrev pub is_some : Option (List ℕ) → Bool
-is_some (some k) = true
-is_some none = false
+is_some (Some k) = true
+is_some None = false
 
 pub record Found (o : Option (List ℕ)) (old : List ℕ) (found : Bool) (new : List ℕ) : Type 0 where
   pub answer : found ≡ is_some o

@@ -1,6 +1,5 @@
 -- The controlled rounding after another (specification, "The walk"). Assumes nothing.
-use Rattle.std.specs.Prelude.{◌≡◌, Bool, true, false, ◌&&◌, ◌||◌, List, [], ◌∷◌, map, ℕ, eqb, ltb}
-use Rattle.std.proofs.Math.Option.{Option, some, none}
+use Rattle.std.specs.Prelude.{◌≡◌, Bool, true, false, ◌&&◌, ◌||◌, List, [], ◌∷◌, map, ℕ, eqb, ltb, Option, Some, None}
 use Rattle.base.specs.Buffers.{written}
 use Rattle.is_rounding.specs.Rounding.{two_ways, is_rounding}
 use Rattle.first_rounding.specs.Order.{in_order, array_of, Before, first_of}
@@ -18,8 +17,8 @@ pub record IsLast (r c w : ℕ) (g n : List ℕ) : Type 0 where
 
 -- what follows n: the next, or nothing where n is the last
 abbrev pub Follows : ℕ → ℕ → ℕ → List ℕ → List ℕ → Option (List ℕ) → Type 0
-Follows r c w g n (some k) = IsNext r c w g n k
-Follows r c w g n none = IsLast r c w g n
+Follows r c w g n (Some k) = IsNext r c w g n k
+Follows r c w g n None = IsLast r c w g n
 
 -- the same, searched for: of all arrays that come after n, the first that is a controlled rounding (`next_rounding::claims`: it follows n)
 abbrev pub is_smaller : List ℕ → List ℕ → Bool
@@ -28,8 +27,8 @@ is_smaller (x ∷ k) [] = false
 is_smaller (x ∷ k) (y ∷ n) = ltb x y || (eqb x y && is_smaller k n)
 
 abbrev pub array_in : ℕ → ℕ → Option (List ℕ) → Option (List ℕ)
-array_in r c (some l) = some (array_of 0 r c l)
-array_in r c none = none
+array_in r c (Some l) = Some (array_of 0 r c l)
+array_in r c None = None
 
 unfoldable pub next_rounding : ℕ → ℕ → ℕ → List ℕ → List ℕ → Option (List ℕ)
 next_rounding r c w g n =
@@ -37,5 +36,5 @@ next_rounding r c w g n =
 
 -- a buffer with what follows written to it, if anything does
 abbrev pub written_if : Option (List ℕ) → List ℕ → List ℕ
-written_if (some k) buffer = written k buffer
-written_if none buffer = buffer
+written_if (Some k) buffer = written k buffer
+written_if None buffer = buffer

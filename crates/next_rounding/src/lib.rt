@@ -1,8 +1,7 @@
 // The controlled rounding after one of a table of up to four by four, in the stated order: the arrays after it are gone through by their numbers.
 #![tactic(auto)]
 
-ghost use Rattle.std.specs.Prelude.{◌≡◌, List, ℕ};
-ghost use Rattle.std.proofs.Math.Option.{none};
+ghost use Rattle.std.specs.Prelude.{◌≡◌, List, ℕ, None};
 ghost use Rattle.table.specs.Check.{table_refusal};
 ghost use Rattle.next_rounding.specs.Next.{Follows, next_rounding};
 ghost use Rattle.next_rounding.specs.Clauses.{passes, SearchReady, FirstFrom, NextReady, Found};
@@ -63,5 +62,5 @@ pub fn write_next(t: Table, cells: &[u32], array: &[u16], counts: &mut [u16]) ->
 
 // What the search of the definition finds follows: of every accepted table, whatever its size, and every array.
 pub fn claims()
-    ensures { (r c d : ℕ) (g n : List ℕ) → table_refusal r c d g ≡ none → Follows r c d g n (next_rounding r c d g n) }
+    ensures { (r c d : ℕ) (g n : List ℕ) → table_refusal r c d g ≡ None → Follows r c d g n (next_rounding r c d g n) }
 {}

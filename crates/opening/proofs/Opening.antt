@@ -1,8 +1,8 @@
 -- What opening a plan answers, and what an opened plan says. Assumes nothing.
+use Rattle.std.specs.Prelude.{Option, Some, None}
 use mathlib.Core.Path.{◌≡◌, refl, sym, ◌∙◌}
 use mathlib.Core.Bool.{Bool, true, false, not}
 use mathlib.Core.List.{List}
-use mathlib.Core.Option.{Option, some, none}
 use Prim.Native.Nat.{ℕ, ◌*◌, ◌≤◌}
 use native.Mathlib.Omega.{arith}
 use lib.ListN.{length}
@@ -70,16 +70,16 @@ module _ (b : List ℕ) where
   is_open s e = go (open_refusal b) refl e
     where
       go : (o : Option Refusal) → open_refusal b ≡ o → refused_or opened.Refused (opened.Plan (sizes_of b)) o ≡ opened.Plan s → IsOpen s b
-      go none p q = record { sizes = cc; opens = p; laid_out_is = opens_layout b p }
-      go (some x) p q = absurd (let z : ◌≡◌ {A = ℕ} 0 1 = cc in omega arith)
+      go None p q = record { sizes = cc; opens = p; laid_out_is = opens_layout b p }
+      go (Some x) p q = absurd (let z : ◌≡◌ {A = ℕ} 0 1 = cc in omega arith)
 
-  pub is_refused : (x : Refusal) → open_answer b ≡ opened.Refused x → open_refusal b ≡ some x
+  pub is_refused : (x : Refusal) → open_answer b ≡ opened.Refused x → open_refusal b ≡ Some x
   unfolding open_answer
   is_refused x e = go (open_refusal b) refl e
     where
-      go : (o : Option Refusal) → open_refusal b ≡ o → refused_or opened.Refused (opened.Plan (sizes_of b)) o ≡ opened.Refused x → open_refusal b ≡ some x
-      go none p q = absurd (let z : ◌≡◌ {A = ℕ} 0 1 = cc in omega arith)
-      go (some y) p q = p ∙ cc
+      go : (o : Option Refusal) → open_refusal b ≡ o → refused_or opened.Refused (opened.Plan (sizes_of b)) o ≡ opened.Refused x → open_refusal b ≡ Some x
+      go None p q = absurd (let z : ◌≡◌ {A = ℕ} 0 1 = cc in omega arith)
+      go (Some y) p q = p ∙ cc
 
   pub opens_answer : Opens b → open_answer b ≡ opened.Plan (sizes_of b)
   unfolding open_answer

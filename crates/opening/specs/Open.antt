@@ -1,6 +1,5 @@
 -- When a plan opens, and the refusals of the calls that take one (specification, "Stored plan, form 1" and "Refusals"). Assumes nothing.
-use Rattle.std.specs.Prelude.{◌≡◌, Bool, not, ◌&&◌, List, [], ◌∷◌, ◌++◌, map, ℕ, ◌*◌, get_or, leb, ltb, eqb}
-use Rattle.std.proofs.Math.Option.{Option, none}
+use Rattle.std.specs.Prelude.{◌≡◌, Bool, not, ◌&&◌, List, [], ◌∷◌, ◌++◌, map, ℕ, ◌*◌, get_or, leb, ltb, eqb, Option, None}
 use Rattle.base.specs.Lists.{sum, all, every}
 use Rattle.table.specs.Table.{entry_places, total}
 use Rattle.table.specs.Whole.{rounds_to}
@@ -45,7 +44,7 @@ open_refusal b = due (open_tests b)
 
 -- a plan opens if neither of the two applies
 abbrev pub Opens : List ℕ → Type 0
-Opens b = open_refusal b ≡ none
+Opens b = open_refusal b ≡ None
 
 -- the call "open" answers with the plan's sizes
 unfoldable pub open_answer : List ℕ → Opened

@@ -1,8 +1,8 @@
 -- What parsing a text says on each way through its tests. Assumes nothing.
+use Rattle.std.specs.Prelude.{Option, Some, None}
 use mathlib.Core.Path.{◌≡◌, refl, sym, ap, ap₂, ◌∙◌}
 use mathlib.Core.Bool.{Bool, true, false, not, cond, ◌&&◌}
 use mathlib.Core.List.{List, [], ◌∷◌, ◌++◌, append_assoc, append-nil}
-use mathlib.Core.Option.{Option, some, none}
 use Prim.Native.Nat.{ℕ, suc, ◌+◌, ◌-◌, ◌*◌, ◌<◌, ◌≤◌}
 use native.Mathlib.Numerals.{add-one}
 use native.Mathlib.Omega.{arith}
@@ -41,55 +41,55 @@ digit_test x t e h = sym e ∙ h
 
 -- the number that is being read, if any: its digits so far, as a list and as a value
 abbrev held_in : Option ℕ → List ℕ
-held_in none = []
-held_in (some v) = v ∷ []
+held_in None = []
+held_in (Some v) = v ∷ []
 
 abbrev value_in : Option ℕ → ℕ
-value_in none = 0
-value_in (some v) = v
+value_in None = 0
+value_in (Some v) = v
 
 abbrev is_some : Option ℕ → Bool
-is_some none = false
-is_some (some v) = true
+is_some None = false
+is_some (Some v) = true
 
 -- a digit, another byte and the end of the text
-from_digit : (o : Option ℕ) (x : ℕ) (l : List ℕ) → is_digit x ≡ true → numbers_from o (x ∷ l) ≡ numbers_from (some (value_in o * 10 + (x - 48))) l
+from_digit : (o : Option ℕ) (x : ℕ) (l : List ℕ) → is_digit x ≡ true → numbers_from o (x ∷ l) ≡ numbers_from (Some (value_in o * 10 + (x - 48))) l
 unfolding numbers_from
-from_digit none x l h = rw h (ap (λ (v : ℕ). numbers_from (some v) l) (omega arith))
-from_digit (some v) x l h = rw (h, numbers_from)
+from_digit None x l h = rw h (ap (λ (v : ℕ). numbers_from (Some v) l) (omega arith))
+from_digit (Some v) x l h = rw (h, numbers_from)
 
-from_gap : (o : Option ℕ) (x : ℕ) (l : List ℕ) → is_digit x ≡ false → numbers_from o (x ∷ l) ≡ held_in o ++ numbers_from none l
+from_gap : (o : Option ℕ) (x : ℕ) (l : List ℕ) → is_digit x ≡ false → numbers_from o (x ∷ l) ≡ held_in o ++ numbers_from None l
 unfolding numbers_from
-from_gap none x l h = rw h
-from_gap (some v) x l h = rw (h, numbers_from)
+from_gap None x l h = rw h
+from_gap (Some v) x l h = rw (h, numbers_from)
 
 from_end : (o : Option ℕ) → numbers_from o [] ≡ held_in o
 unfolding numbers_from
-from_end none = refl
-from_end (some v) = refl
+from_end None = refl
+from_end (Some v) = refl
 
 and_no : (a : Bool) {b : Bool} → b ≡ false → (a && b) ≡ false
 and_no true e = e
 and_no false e = refl
 
 -- a number that is too large stays so
-from_large : (l : List ℕ) (v : ℕ) → 4294967295 < v → all is_number (numbers_from (some v) l) ≡ false
+from_large : (l : List ℕ) (v : ℕ) → 4294967295 < v → all is_number (numbers_from (Some v) l) ≡ false
 unfolding all numbers_from
 from_large [] v h = rw (lt-leb v 4294967295 h)
 from_large (x ∷ l) v h = go (is_digit x) (from_large l (v * 10 + (x - 48)) (omega arith))
   where
-    go : (b : Bool) → all is_number (numbers_from (some (v * 10 + (x - 48))) l) ≡ false
-        → all is_number (elim b [ true ↦ numbers_from (some (v * 10 + (x - 48))) l | false ↦ v ∷ numbers_from none l ]) ≡ false
+    go : (b : Bool) → all is_number (numbers_from (Some (v * 10 + (x - 48))) l) ≡ false
+        → all is_number (elim b [ true ↦ numbers_from (Some (v * 10 + (x - 48))) l | false ↦ v ∷ numbers_from None l ]) ≡ false
     go true e = e
     go false e = rw (lt-leb v 4294967295 h)
 
 -- the array of the numbers
 module _ (n : List ℕ) (h : length n < 2048) where
   padded_cut : (o : Option ℕ) → padded (n ++ held_in o) ≡ n ++ (value_in o ∷ replicate (2047 - length n) 0)
-  padded_cut none =
+  padded_cut None =
       let e : 2048 - length n ≡ suc (2047 - length n) = omega arith in
       ap padded (append-nil n) ∙ ap (λ (k : ℕ). n ++ replicate k 0) e
-  padded_cut (some v) =
+  padded_cut (Some v) =
       let e : 2048 - length (n ++ (v ∷ [])) ≡ 2047 - length n = omega (arith, length-append n (v ∷ [])) in
       append_assoc n (v ∷ []) _ ∙ ap (λ (k : ℕ). n ++ (v ∷ replicate k 0)) e
 
@@ -97,7 +97,7 @@ module _ (n : List ℕ) (h : length n < 2048) where
   padded_value o = ap (λ (l : List ℕ). get_or l (length n) 0) (padded_cut o) ∙ get_or-append_seam n (value_in o) _ 0
 
   padded_set : (o : Option ℕ) (v : ℕ) → set (padded (n ++ held_in o)) (length n) v ≡ padded (n ++ (v ∷ []))
-  padded_set o v = ap (λ (l : List ℕ). set l (length n) v) (padded_cut o) ∙ set-append_seam n (value_in o) _ v ∙ sym (padded_cut (some v))
+  padded_set o v = ap (λ (l : List ℕ). set l (length n) v) (padded_cut o) ∙ set-append_seam n (value_in o) _ v ∙ sym (padded_cut (Some v))
 
 -- the bytes before place i are read: the numbers that ended, and the one that is being read
 pub record Scanned (s : List ℕ) (i : ℕ) (reading : Bool) (count : ℕ) (numbers : List ℕ) : Type 0 where
@@ -106,7 +106,7 @@ pub record Scanned (s : List ℕ) (i : ℕ) (reading : Bool) (count : ℕ) (numb
   pub is_reading : reading ≡ is_some last
   pub counted : count ≡ length done
   pub held : numbers ≡ padded (done ++ held_in last)
-  pub found : numbers_from none s ≡ done ++ numbers_from last (drop i s)
+  pub found : numbers_from None s ≡ done ++ numbers_from last (drop i s)
   pub clean : (k : ℕ) → k < i → is_text (get_or s k 0) ≡ true
   pub small : all is_number (done ++ held_in last) ≡ true
   pub few : 2 * count + one_if reading ≤ i
@@ -119,8 +119,8 @@ small_more l k n e h =
     all_append is_number l (n ∷ []) ∙ and_both (and_left (all is_number l) (all is_number k) (sym (all_append is_number l k) ∙ e)) (rw (le-leb n 4294967295 h))
 
 held_size : (o : Option ℕ) → length (held_in o) ≡ one_if (is_some o)
-held_size none = refl
-held_size (some v) = refl
+held_size None = refl
+held_size (Some v) = refl
 
 size_small : (b : Bool) → one_if b ≤ 1
 size_small true = omega arith
@@ -130,7 +130,7 @@ pub scanned_none : (s : List ℕ) → length s ≤ 4096 → Scanned s 0 false 0 
 unfolding all
 scanned_none s h = record {
   done = [];
-  last = none;
+  last = None;
   is_reading = refl;
   counted = refl;
   held = refl;
@@ -143,32 +143,32 @@ scanned_none s h = record {
 }
 
 -- the tests of `parse`
-cond_none : (b : Bool) → ◌≡◌ {A = Option (List ℕ)} (cond b none none) none
+cond_none : (b : Bool) → ◌≡◌ {A = Option (List ℕ)} (cond b None None) None
 cond_none true = refl
 cond_none false = refl
 
 module _ (s : List ℕ) where
-  parse_long : 4096 < length s → parse s ≡ none
+  parse_long : 4096 < length s → parse s ≡ None
   unfolding parse
   parse_long h = rw (lt-leb (length s) 4096 h)
 
-  parse_other : all is_text s ≡ false → parse s ≡ none
+  parse_other : all is_text s ≡ false → parse s ≡ None
   unfolding parse
   parse_other h = simp (h, cond_none)
 
-  parse_few : length (numbers_from none s) < 3 → parse s ≡ none
+  parse_few : length (numbers_from None s) < 3 → parse s ≡ None
   unfolding parse
-  parse_few h = simp (lt-leb 3 (length (numbers_from none s)) h, cond_none)
+  parse_few h = simp (lt-leb 3 (length (numbers_from None s)) h, cond_none)
 
-  parse_large : all is_number (numbers_from none s) ≡ false → parse s ≡ none
+  parse_large : all is_number (numbers_from None s) ≡ false → parse s ≡ None
   unfolding parse
   parse_large h = simp (h, cond_none)
 
-  parse_accepted : length s ≤ 4096 → all is_text s ≡ true → 3 ≤ length (numbers_from none s) → all is_number (numbers_from none s) ≡ true → parse s ≡ some (numbers_from none s)
+  parse_accepted : length s ≤ 4096 → all is_text s ≡ true → 3 ≤ length (numbers_from None s) → all is_number (numbers_from None s) ≡ true → parse s ≡ Some (numbers_from None s)
   unfolding parse
-  parse_accepted h t n l = simp (le-leb (length s) 4096 h, t, le-leb 3 (length (numbers_from none s)) n, l)
+  parse_accepted h t n l = simp (le-leb (length s) 4096 h, t, le-leb 3 (length (numbers_from None s)) n, l)
 
-  pub too_long : (p : Parsed) → p ≡ parsed_of none → 4096 < length s → p ≡ parsed_of (parse s)
+  pub too_long : (p : Parsed) → p ≡ parsed_of None → 4096 < length s → p ≡ parsed_of (parse s)
   too_long p e h = e ∙ sym (ap parsed_of (parse_long h))
 
 module _ {s : List ℕ} {i : ℕ} {reading : Bool} {count : ℕ} {numbers : List ℕ} (w : Scanned s i reading count numbers) where
@@ -188,7 +188,7 @@ module _ {s : List ℕ} {i : ℕ} {reading : Bool} {count : ℕ} {numbers : List
     value_is : get_or numbers count 0 ≡ value_in w.last
     value_is = ap₂ (λ (n : List ℕ) (k : ℕ). get_or n k 0) w.held w.counted ∙ padded_value w.done (omega (arith, w.counted, scanned_room)) w.last
 
-    found_here : numbers_from none s ≡ w.done ++ numbers_from w.last (get_or s i 0 ∷ drop (i + 1) s)
+    found_here : numbers_from None s ≡ w.done ++ numbers_from w.last (get_or s i 0 ∷ drop (i + 1) s)
     found_here = w.found ∙ ap (λ (r : List ℕ). w.done ++ numbers_from w.last r) (drop-cons s i 0 l ∙ ap (λ (k : ℕ). get_or s i 0 ∷ drop k s) (sym (add-one i)))
 
     clean_more : is_text (get_or s i 0) ≡ true → (k : ℕ) → k < i + 1 → is_text (get_or s k 0) ≡ true
@@ -199,22 +199,22 @@ module _ {s : List ℕ} {i : ℕ} {reading : Bool} {count : ℕ} {numbers : List
         digit : is_digit (get_or s i 0) ≡ true
         digit = sym te ∙ th
 
-        found_digit : numbers_from none s ≡ w.done ++ numbers_from (some n) (drop (i + 1) s)
+        found_digit : numbers_from None s ≡ w.done ++ numbers_from (Some n) (drop (i + 1) s)
         found_digit =
             found_here
             ∙ ap (λ (r : List ℕ). w.done ++ r) (from_digit w.last (get_or s i 0) (drop (i + 1) s) digit)
-            ∙ ap (λ (v : ℕ). w.done ++ numbers_from (some v) (drop (i + 1) s)) (ap (λ (v : ℕ). v * 10 + (get_or s i 0 - 48)) (sym value_is) ∙ sym ne)
+            ∙ ap (λ (v : ℕ). w.done ++ numbers_from (Some v) (drop (i + 1) s)) (ap (λ (v : ℕ). v * 10 + (get_or s i 0 - 48)) (sym value_is) ∙ sym ne)
 
-        pub too_large : (p : Parsed) → p ≡ parsed_of none → 4294967295 < n → p ≡ parsed_of (parse s)
+        pub too_large : (p : Parsed) → p ≡ parsed_of None → 4294967295 < n → p ≡ parsed_of (parse s)
         too_large p e h =
-            let f : all is_number (numbers_from none s) ≡ false =
+            let f : all is_number (numbers_from None s) ≡ false =
             ap (all is_number) found_digit ∙ all_append is_number w.done _ ∙ and_no (all is_number w.done) (from_large (drop (i + 1) s) n h) in
             e ∙ sym (ap parsed_of (parse_large s f))
 
         pub scanned_digit : n ≤ 4294967295 → Scanned s (i + 1) true count (set numbers count n)
         scanned_digit h = record {
           done = w.done;
-          last = some n;
+          last = Some n;
           is_reading = refl;
           counted = w.counted;
           held = ap₂ (λ (r : List ℕ) (k : ℕ). set r k n) w.held w.counted ∙ padded_set w.done (omega (arith, w.counted, scanned_room)) w.last n;
@@ -230,7 +230,7 @@ module _ {s : List ℕ} {i : ℕ} {reading : Bool} {count : ℕ} {numbers : List
         no_digit : is_digit (get_or s i 0) ≡ false
         no_digit = sym te ∙ th
 
-        pub other_byte : not g ≡ true → (p : Parsed) → p ≡ parsed_of none → p ≡ parsed_of (parse s)
+        pub other_byte : not g ≡ true → (p : Parsed) → p ≡ parsed_of None → p ≡ parsed_of (parse s)
         other_byte h p e =
             let f : is_text (get_or s i 0) ≡ false = rw no_digit (sym ge ∙ not-true g h) in
             e ∙ sym (ap parsed_of (parse_other s (all_fails is_text s 0 i l f)))
@@ -238,7 +238,7 @@ module _ {s : List ℕ} {i : ℕ} {reading : Bool} {count : ℕ} {numbers : List
         pub scanned_gap : not g ≡ false → (k : ℕ) → k ≡ one_if reading → Scanned s (i + 1) false (count + k) numbers
         scanned_gap h k e = record {
           done = w.done ++ held_in w.last;
-          last = none;
+          last = None;
           is_reading = refl;
           counted = sym (length-append w.done (held_in w.last) ∙ ap₂ ◌+◌ (sym w.counted) (held_size w.last ∙ ap one_if (sym w.is_reading) ∙ sym e));
           held = w.held ∙ ap padded (sym (append-nil (w.done ++ held_in w.last)));
@@ -251,18 +251,18 @@ module _ {s : List ℕ} {i : ℕ} {reading : Bool} {count : ℕ} {numbers : List
         }
 
   module _ (m : length s ≤ i) (k : ℕ) (ke : k ≡ one_if reading) where
-    all_found : numbers_from none s ≡ w.done ++ held_in w.last
+    all_found : numbers_from None s ≡ w.done ++ held_in w.last
     all_found = w.found ∙ ap (λ (r : List ℕ). w.done ++ numbers_from w.last r) (drop_of_length-le s m) ∙ ap (λ (r : List ℕ). w.done ++ r) (from_end w.last)
 
-    count_found_lem : count + k ≡ length (numbers_from none s)
+    count_found_lem : count + k ≡ length (numbers_from None s)
     count_found_lem = sym (ap length all_found ∙ length-append w.done (held_in w.last) ∙ ap₂ ◌+◌ (sym w.counted) (held_size w.last ∙ ap one_if (sym w.is_reading) ∙ sym ke))
 
-    pub too_few : (p : Parsed) → p ≡ parsed_of none → count + k < 3 → p ≡ parsed_of (parse s)
+    pub too_few : (p : Parsed) → p ≡ parsed_of None → count + k < 3 → p ≡ parsed_of (parse s)
     too_few p e h = e ∙ sym (ap parsed_of (parse_few s (omega (arith, count_found_lem))))
 
     pub accepted_text : 3 ≤ count + k → record { accepted = true; count = count + k; numbers = numbers } ≡ parsed_of (parse s)
     accepted_text h =
         let t : all is_text s ≡ true = all_intro is_text s 0 (λ j l. w.clean j (omega arith)) in
         let a = parse_accepted s w.short t (omega (arith, count_found_lem)) (ap (all is_number) all_found ∙ w.small) in
-        let r : numbers ≡ padded (numbers_from none s) = w.held ∙ ap padded (sym all_found) in
+        let r : numbers ≡ padded (numbers_from None s) = w.held ∙ ap padded (sym all_found) in
         ap₂ (λ (c : ℕ) (n : List ℕ). record { accepted = true; count = c; numbers = n }) count_found_lem r ∙ sym (ap parsed_of a)

@@ -1,6 +1,5 @@
 -- Texts, and what they are parsed to (specification, "The printing program"). Assumes nothing.
-use Rattle.std.specs.Prelude.{List, [], ◌∷◌, ◌++◌, ℕ, ◌+◌, replicate}
-use Rattle.std.proofs.Math.Option.{Option, some, none}
+use Rattle.std.specs.Prelude.{List, [], ◌∷◌, ◌++◌, ℕ, ◌+◌, replicate, Option, Some, None}
 use Rattle.base.specs.Lists.{tabulate}
 
 -- an input and what it is parsed to
@@ -9,10 +8,10 @@ pub record Parse : Type 0 where
   pub numbers : Option (List ℕ)
 
 abbrev pub reads : List ℕ → List ℕ → Parse
-reads s n = record { text = s; numbers = some n }
+reads s n = record { text = s; numbers = Some n }
 
 abbrev pub refuses : List ℕ → Parse
-refuses s = record { text = s; numbers = none }
+refuses s = record { text = s; numbers = None }
 
 -- 1 2 3 with another byte after it
 abbrev pub three_and : ℕ → List ℕ

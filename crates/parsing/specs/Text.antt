@@ -1,6 +1,5 @@
 -- Texts and the numbers in them (specification, "The printing program"). Assumes nothing.
-use Rattle.std.specs.Prelude.{Bool, true, false, cond, ◌&&◌, ◌||◌, List, [], ◌∷◌, ℕ, ◌+◌, ◌-◌, ◌*◌, length, leb, eqb}
-use Rattle.std.proofs.Math.Option.{Option, some, none}
+use Rattle.std.specs.Prelude.{Bool, true, false, cond, ◌&&◌, ◌||◌, List, [], ◌∷◌, ℕ, ◌+◌, ◌-◌, ◌*◌, length, leb, eqb, Option, Some, None}
 use Rattle.base.specs.Lists.{all}
 
 -- the longest text
@@ -21,10 +20,10 @@ is_text x = is_digit x || is_gap x
 
 -- the numbers in some bytes, each a run of digits; `some v` is the value of the digits just read, if any. (The last case goes one way only, where `cond` would compute both.)
 unfoldable pub numbers_from : Option ℕ → List ℕ → List ℕ
-numbers_from none [] = []
-numbers_from (some v) [] = v ∷ []
-numbers_from none (x ∷ l) = cond (is_digit x) (numbers_from (some (x - 48)) l) (numbers_from none l)
-numbers_from (some v) (x ∷ l) = elim (is_digit x) [ true ↦ numbers_from (some (v * 10 + (x - 48))) l | false ↦ v ∷ numbers_from none l ]
+numbers_from None [] = []
+numbers_from (Some v) [] = v ∷ []
+numbers_from None (x ∷ l) = cond (is_digit x) (numbers_from (Some (x - 48)) l) (numbers_from None l)
+numbers_from (Some v) (x ∷ l) = elim (is_digit x) [ true ↦ numbers_from (Some (v * 10 + (x - 48))) l | false ↦ v ∷ numbers_from None l ]
 
 -- the highest number
 abbrev pub max_number : ℕ
@@ -36,5 +35,5 @@ is_number x = leb x max_number
 -- the numbers of a text; none where it is too long, has another byte, fewer than three numbers or one that is too high
 unfoldable pub parse : List ℕ → Option (List ℕ)
 parse s =
-    let n = numbers_from none s in
-    cond (leb (length s) max_text) (cond (all is_text s) (cond (leb 3 (length n)) (cond (all is_number n) (some n) none) none) none) none
+    let n = numbers_from None s in
+    cond (leb (length s) max_text) (cond (all is_text s) (cond (leb 3 (length n)) (cond (all is_number n) (Some n) None) None) None) None

@@ -1,8 +1,7 @@
 // Parsing a text: the numbers in it.
 #![tactic(auto)]
 
-ghost use Rattle.std.specs.Prelude.{◌≡◌, true, map, ◌+◌, ◌-◌, ◌*◌};
-ghost use Rattle.std.proofs.Math.Option.{none};
+ghost use Rattle.std.specs.Prelude.{◌≡◌, true, map, ◌+◌, ◌-◌, ◌*◌, None};
 ghost use Rattle.parsing.specs.Text.{max_text, max_number, is_digit, is_gap, parse};
 ghost use Rattle.parsing.specs.Clauses.{parsed_of, one_if};
 ghost use Rattle.parsing.specs.Examples.{parses};
@@ -58,7 +57,7 @@ fn with_digit(n: u32, b: u8) -> u64
 
 // The answer to a text that is refused.
 fn refused() -> Parsed
-    ensures { result ≡ parsed_of none }
+    ensures { result ≡ parsed_of None }
 {
     Parsed {
         accepted: false,

@@ -1,7 +1,7 @@
 -- The ways through the call "plan". Assumes nothing.
+use Rattle.std.specs.Prelude.{Option, Some, None}
 use mathlib.Core.Path.{◌≡◌, refl, sym, ap, ◌∙◌}
 use mathlib.Core.List.{List}
-use mathlib.Core.Option.{Option, some, none}
 use Prim.Native.Nat.{ℕ, ◌≤◌, ◌<◌}
 use native.Mathlib.Nat.{mul-le-mul}
 use native.Mathlib.Omega.{arith}
@@ -35,11 +35,11 @@ use Rattle.plan.proofs.Planning.{promised, gathered_sizes, gathered_length, plan
 
 -- the answer and the buffer, by what is due
 module _ {r c d : ℕ} {g old : List ℕ} where
-  refused_so : {x : Refusal} → plan_refusal r c d g (length old) ≡ some x → PlanAnswers r c d g old (Refused x) old
+  refused_so : {x : Refusal} → plan_refusal r c d g (length old) ≡ Some x → PlanAnswers r c d g old (Refused x) old
   unfolding plan_answer after
   refused_so h = record { answer = rw h refl; buffer = rw h refl }
 
-  accepted_so : {n : ℕ} {new : List ℕ} → plan_refusal r c d g (length old) ≡ none → n ≡ length (plan_bytes r c d g) → new ≡ written (plan_bytes r c d g) old
+  accepted_so : {n : ℕ} {new : List ℕ} → plan_refusal r c d g (length old) ≡ None → n ≡ length (plan_bytes r c d g) → new ≡ written (plan_bytes r c d g) old
       → PlanAnswers r c d g old (Length n) new
   unfolding plan_answer after
   accepted_so h e w = record { answer = rw h (ap Length e); buffer = rw h w }
@@ -98,5 +98,5 @@ unfolding plan_answer plan_refusal table_refusal
 number_apart {r} {c} {d} {g} {old} f = rw f.answer (go (plan_refusal r c d g (length old)) refl)
   where
     go : (o : Option Refusal) → plan_refusal r c d g (length old) ≡ o → Apart (refused_or Refused (Length (length (plan_bytes r c d g))) o)
-    go (some x) q = number_small x
-    go none q = (promised (passed_all r c d g (first_none (table_tests r c d g) _ q))).len_low
+    go (Some x) q = number_small x
+    go None q = (promised (passed_all r c d g (first_none (table_tests r c d g) _ q))).len_low

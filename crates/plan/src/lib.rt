@@ -1,8 +1,7 @@
 // The plan of a table in stored form 1.
 #![tactic(auto)]
 
-ghost use Rattle.std.specs.Prelude.{◌≡◌, List, map, ℕ};
-ghost use Rattle.std.proofs.Math.Option.{none};
+ghost use Rattle.std.specs.Prelude.{◌≡◌, List, map, ℕ, None};
 ghost use Rattle.table.specs.Check.{table_refusal};
 ghost use Rattle.table.specs.Clauses.{IsTable};
 ghost use Rattle.plan.specs.Call.{PlanAnswers, planned_number};
@@ -77,6 +76,6 @@ pub fn planned_number(r: Planned) -> u32
 
 // What the plan of every accepted table keeps; and the literal calls are as stated, with 7 beside each other refusal.
 pub fn claims()
-    ensures promises { (r c d : ℕ) (g : List ℕ) → table_refusal r c d g ≡ none → Promises r c d g }
+    ensures promises { (r c d : ℕ) (g : List ℕ) → table_refusal r c d g ≡ None → Promises r c d g }
     ensures calls { map planned calls ≡ map said calls }
 {}

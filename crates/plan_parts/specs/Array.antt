@@ -1,6 +1,5 @@
 -- The call that tells an array of a stored plan, by its number (specification, "Which entry set the weight" and "Refusals"). Assumes nothing.
-use Rattle.std.specs.Prelude.{not, ◌||◌, List, [], ◌∷◌, ◌++◌, ℕ, ◌-◌, length, ltb}
-use Rattle.std.proofs.Math.Option.{Option}
+use Rattle.std.specs.Prelude.{not, ◌||◌, List, [], ◌∷◌, ◌++◌, ℕ, ◌-◌, length, ltb, Option}
 use Rattle.base.specs.Buffers.{written}
 use Rattle.refusals.specs.declared.Refusal.{Refusal}
 use Rattle.refusals.specs.declared.Refusal.TheVariants.{Array, Buffer}

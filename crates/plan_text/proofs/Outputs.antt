@@ -1,8 +1,8 @@
 -- What is printed of a table's plan, and of the numbers of a text. Assumes nothing.
+use Rattle.std.specs.Prelude.{Option, Some, None}
 use mathlib.Core.Path.{◌≡◌, refl, sym, ap, ◌∙◌}
 use mathlib.Core.Bool.{true, false}
 use mathlib.Core.List.{List, ◌++◌}
-use mathlib.Core.Option.{Option, some, none}
 use Prim.Native.Nat.{ℕ, ◌-◌, ◌≤◌}
 use native.Mathlib.Omega.{arith}
 use lib.ListN.{length, get_or, take, drop, replicate, length-append}
@@ -42,8 +42,8 @@ module _ {r c d : ℕ} {g old new : List ℕ} {p : Planned} (f : PlanAnswers r c
   due_so = go (table_refusal r c d g) refl
     where
       go : (o : Option Refusal) → table_refusal r c d g ≡ o → due (plan_tests r c d g (length old)) ≡ table_refusal r c d g
-      go none e = refused_nothing r c d g (length old) _ e (omega (arith, (promised (passed_all r c d g e)).len_high)) ∙ sym e
-      go (some x) e = refused_table r c d g (length old) _ x e ∙ sym e
+      go None e = refused_nothing r c d g (length old) _ e (omega (arith, (promised (passed_all r c d g e)).len_high)) ∙ sym e
+      go (Some x) e = refused_table r c d g (length old) _ x e ∙ sym e
 
   told : p ≡ refused_or Refused (Length (length (plan_bytes r c d g))) (table_refusal r c d g)
   unfolding plan_answer
@@ -54,8 +54,8 @@ module _ {r c d : ℕ} {g old new : List ℕ} {p : Planned} (f : PlanAnswers r c
   refusal_printed x h out after end w = rw (go (table_refusal r c d g) refl) at w
     where
       go : (o : Option Refusal) → table_refusal r c d g ≡ o → refused (number_of x) ≡ table_output r c d g
-      go none e = let a = told in let z : ◌≡◌ {A = ℕ} 0 1 = cc in absurd (omega arith)
-      go (some y) e = let a = told in let q : x ≡ y = cc in ap (λ z. refused (number_of z)) q ∙ rw e refl
+      go None e = let a = told in let z : ◌≡◌ {A = ℕ} 0 1 = cc in absurd (omega arith)
+      go (Some y) e = let a = told in let q : x ≡ y = cc in ap (λ z. refused (number_of z)) q ∙ rw e refl
 
   pub plan_listed : (n : ℕ) → p ≡ Length n → Listed n new (table_output r c d g)
   unfolding after
@@ -65,8 +65,8 @@ module _ {r c d : ℕ} {g old new : List ℕ} {p : Planned} (f : PlanAnswers r c
       rest = drop (length (plan_bytes r c d g)) old
 
       go : (o : Option Refusal) → table_refusal r c d g ≡ o → Listed n new (table_output r c d g)
-      go (some x) e = let a = told in let z : ◌≡◌ {A = ℕ} 0 1 = cc in absurd (omega arith)
-      go none e =
+      go (Some x) e = let a = told in let z : ◌≡◌ {A = ℕ} 0 1 = cc in absurd (omega arith)
+      go None e =
           let a = told in
           let m : n ≡ length (plan_bytes r c d g) = cc in
           let q : new ≡ plan_bytes r c d g ++ rest = rw (due_so, e) at f.buffer in
@@ -91,8 +91,8 @@ pub record Numbers (p : Parsed) (s : List ℕ) : Type 0 where
 
 module _ (s : List ℕ) (p : Parsed) (e : p ≡ parsed_of (parse s)) where
   refused_one : (o : Option (List ℕ)) → p ≡ parsed_of o → p.accepted ≡ false → refused_text ≡ printed o
-  refused_one none q h = refl
-  refused_one (some n) q h = let x : true ≡ false = sym (ap (λ (y : Parsed). y.accepted) q) ∙ h in let o : ◌≡◌ {A = ℕ} 0 1 = cc in absurd (omega arith)
+  refused_one None q h = refl
+  refused_one (Some n) q h = let x : true ≡ false = sym (ap (λ (y : Parsed). y.accepted) q) ∙ h in let o : ◌≡◌ {A = ℕ} 0 1 = cc in absurd (omega arith)
 
   pub text_refused : p.accepted ≡ false → (out after : List ℕ) (end : ℕ) → Wrote out 0 refused_text after end → Wrote out 0 (output s) after end
   unfolding output
@@ -100,8 +100,8 @@ module _ (s : List ℕ) (p : Parsed) (e : p ≡ parsed_of (parse s)) where
 
   numbers_of : (o : Option (List ℕ)) → parse s ≡ o → p ≡ parsed_of o → p.accepted ≡ true → Numbers p s
   unfolding output
-  numbers_of none a q h = let x : false ≡ true = sym (ap (λ (y : Parsed). y.accepted) q) ∙ h in let o : ◌≡◌ {A = ℕ} 0 1 = cc in absurd (omega arith)
-  numbers_of (some n) a q h =
+  numbers_of None a q h = let x : false ≡ true = sym (ap (λ (y : Parsed). y.accepted) q) ∙ h in let o : ◌≡◌ {A = ℕ} 0 1 = cc in absurd (omega arith)
+  numbers_of (Some n) a q h =
       let k = accepted_count s n a in
       rw q (record {
         enough = k.0;

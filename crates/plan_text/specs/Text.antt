@@ -1,6 +1,5 @@
 -- What the printing program prints of its input (specification, "The printing program"). Assumes nothing.
-use Rattle.std.specs.Prelude.{List, [], ◌∷◌, ◌++◌, map, ℕ, length, get_or, drop}
-use Rattle.std.proofs.Math.Option.{Option, some, none}
+use Rattle.std.specs.Prelude.{List, [], ◌∷◌, ◌++◌, map, ℕ, length, get_or, drop, Option, Some, None}
 use Rattle.refusals.specs.Numbers.{number_of}
 use Rattle.refusals.specs.Due.{refused_or}
 use Rattle.table.specs.Check.{table_refusal}
@@ -35,8 +34,8 @@ table_output r c d g = refused_or (λ x. refused (number_of x)) (listing (plan_o
 
 -- the numbers are r, c, D and then the cells: what is printed of them
 abbrev pub printed : Option (List ℕ) → List ℕ
-printed none = refused_text
-printed (some n) = table_output (get_or n 0 0) (get_or n 1 0) (get_or n 2 0) (drop 3 n)
+printed None = refused_text
+printed (Some n) = table_output (get_or n 0 0) (get_or n 1 0) (get_or n 2 0) (drop 3 n)
 
 -- what the program prints of an input; `refused text` comes before any other refusal
 unfoldable pub output : List ℕ → List ℕ

@@ -1,8 +1,8 @@
 -- The ways through the call "pool". Assumes nothing.
+use Rattle.std.specs.Prelude.{Some, None}
 use mathlib.Core.Path.{◌≡◌, sym, ap, ◌∙◌}
 use mathlib.Core.Bool.{Bool, true, false, not, ◌||◌}
 use mathlib.Core.List.{List, [], ◌∷◌}
-use mathlib.Core.Option.{some, none}
 use Prim.Native.Nat.{ℕ, ◌*◌, ◌<◌, ◌≤◌}
 use native.Mathlib.Omega.{arith}
 use lib.ListN.{length, set}
@@ -37,12 +37,12 @@ module _ (r c d : ℕ) (g : List ℕ) (e : ℕ) (h numbers cells : List ℕ) whe
   abbrev Says : Answer → Lent → Type 0
   Says a new = Answers (pool_refusal r c d g e h (length numbers) (length cells)) (pooled_into d g e h (lent numbers cells)) (lent numbers cells) a new
 
-  refused_by : {x : Refusal} → pooling_refusal r c d g e h ≡ some x → Says (answer.Refused x) (lent numbers cells)
+  refused_by : {x : Refusal} → pooling_refusal r c d g e h ≡ Some x → Says (answer.Refused x) (lent numbers cells)
   unfolding pool_refusal pooling_refusal
   refused_by {x} q = refused_so (due_first (pooling_tests r c d g e h) _ x q)
 
   -- 7, where nothing else is due
-  module _ (free : pooling_refusal r c d g e h ≡ none) where
+  module _ (free : pooling_refusal r c d g e h ≡ None) where
     buffer_by : pool_refusal r c d g e h (length numbers) (length cells) ≡ due (refuse Buffer (ltb (length numbers) 1 || ltb (length cells) (r * c)) ∷ [])
     unfolding pool_refusal pooling_refusal
     buffer_by = due_second (pooling_tests r c d g e h) _ free
@@ -51,17 +51,17 @@ module _ (r c d : ℕ) (g : List ℕ) (e : ℕ) (h numbers cells : List ℕ) whe
     unfolding due
     short_numbers l = refused_so (buffer_by ∙ simp (lt-ltb (length numbers) 1 l))
 
-    module _ (some : 1 ≤ length numbers) where
+    module _ (Some : 1 ≤ length numbers) where
       short_cells : length cells < r * c → Says (answer.Refused Buffer) (lent numbers cells)
       unfolding due
-      short_cells l = refused_so (buffer_by ∙ simp (le-ltb (length numbers) 1 some, lt-ltb (length cells) (r * c) l))
+      short_cells l = refused_so (buffer_by ∙ simp (le-ltb (length numbers) 1 Some, lt-ltb (length cells) (r * c) l))
 
       both_written : {x : ℕ} {new : List ℕ} → r * c ≤ length cells → x ≡ least_multiple d e → new ≡ written (pooled_cells d g e h) cells
           → Says answer.Done (lent (set numbers 0 x) new)
       unfolding due
       both_written {x} {new} l p q =
-          accepted_so (buffer_by ∙ simp (le-ltb (length numbers) 1 some, le-ltb (length cells) (r * c) l))
-          (let a : set numbers 0 x ≡ written (least_multiple d e ∷ []) numbers = one_set numbers x some ∙ ap (λ (y : ℕ). written (y ∷ []) numbers) p in cc)
+          accepted_so (buffer_by ∙ simp (le-ltb (length numbers) 1 Some, le-ltb (length cells) (r * c) l))
+          (let a : set numbers 0 x ≡ written (least_multiple d e ∷ []) numbers = one_set numbers x Some ∙ ap (λ (y : ℕ). written (y ∷ []) numbers) p in cc)
 
 -- what the code knows of two parts that were accepted, of their scale and of their pooled cells
 module _ (r c d : ℕ) (g : List ℕ) (e : ℕ) (h : List ℕ) {k : Parts} (is : k ≡ parts_answer r c d g e h) {p : Pair} (q : k ≡ Accepted p) where
@@ -89,7 +89,7 @@ module _ (r c d : ℕ) (g : List ℕ) (e : ℕ) (h : List ℕ) {k : Parts} (is :
     pub cells_scaled : Scaled s g h
     cells_scaled = rw scale_is (scale_scaled denominators (r * c) g h (tables.first.shape.cells ∙ sym tables.second.shape.cells))
 
-    pub multiple_above : ltb 65535 s.denominator ≡ true → pooling_refusal r c d g e h ≡ some Multiple
+    pub multiple_above : ltb 65535 s.denominator ≡ true → pooling_refusal r c d g e h ≡ Some Multiple
     multiple_above l = multiple_due r c d g e h told.nothing_due (rw scale_is at (ltb-true 65535 s.denominator l))
 
     module _ (not-above : ltb 65535 s.denominator ≡ false) {b : Bool} (w : b ≡ cells_within s.denominator (cells_of s g h)) where
@@ -100,11 +100,11 @@ module _ (r c d : ℕ) (g : List ℕ) (e : ℕ) (h : List ℕ) {k : Parts} (is :
       unfolding pooled_cells
       within_is = rw scale_is at w
 
-      pub cell_above : not b ≡ true → pooling_refusal r c d g e h ≡ some PooledCell
+      pub cell_above : not b ≡ true → pooling_refusal r c d g e h ≡ Some PooledCell
       cell_above n = cell_due r c d g e h told.nothing_due (rw scale_is at low) (sym within_is ∙ not-true b n)
 
       module _ (n : not b ≡ false) where
-        pub none_above : pooling_refusal r c d g e h ≡ none
+        pub none_above : pooling_refusal r c d g e h ≡ None
         none_above = nothing_due r c d g e h told.nothing_due (rw scale_is at low) (sym within_is ∙ not-false b n)
 
         pub can_write : (cells : List ℕ) → s.cells ≤ length cells → Writable s g h cells
@@ -130,19 +130,19 @@ module _ (r c d : ℕ) (g : List ℕ) (e : ℕ) (h numbers cells : List ℕ) {k 
       cell_stops n = refused_by r c d g e h numbers cells (cell_above r c d g e h is q z not-above w n)
 
       module _ (n : not b ≡ false) where
-        free : pooling_refusal r c d g e h ≡ none
+        free : pooling_refusal r c d g e h ≡ None
         free = none_above r c d g e h is q z not-above w n
 
         pub numbers_stop : length numbers < 1 → Says r c d g e h numbers cells (answer.Refused Buffer) (lent numbers cells)
         numbers_stop l = short_numbers r c d g e h numbers cells free l
 
-        module _ (some : 1 ≤ length numbers) where
+        module _ (Some : 1 ≤ length numbers) where
           pub cells_stop : length cells < s.cells → Says r c d g e h numbers cells (answer.Refused Buffer) (lent numbers cells)
-          cells_stop l = short_cells r c d g e h numbers cells free some (rw (scale_is r c d g e h is q z) at l)
+          cells_stop l = short_cells r c d g e h numbers cells free Some (rw (scale_is r c d g e h is q z) at l)
 
           pub pooled : {x : ℕ} {new : List ℕ} → s.cells ≤ length cells → x ≡ s.denominator → new ≡ written (cells_of s g h) cells
               → Says r c d g e h numbers cells answer.Done (lent (set numbers 0 x) new)
           unfolding pooled_cells
           pooled room a v =
               let i = scale_is r c d g e h is q z in
-              both_written r c d g e h numbers cells free some (rw i at room) (rw i at a) (rw i at v)
+              both_written r c d g e h numbers cells free Some (rw i at room) (rw i at a) (rw i at v)

@@ -1,8 +1,8 @@
 -- What the check of two parts says, and the ways through it. Assumes nothing.
+use Rattle.std.specs.Prelude.{Option, Some, None}
 use mathlib.Core.Path.{◌≡◌, refl, sym, ap, ap₂, ◌∙◌}
 use mathlib.Core.List.{List}
 use mathlib.Core.Logic.{⊎_elim}
-use mathlib.Core.Option.{Option, some, none}
 use Prim.Native.Nat.{ℕ, ◌*◌}
 use native.Mathlib.Omega.{arith}
 use mir.Val.{Fits}
@@ -48,24 +48,24 @@ module _ (r c d : ℕ) (g : List ℕ) (e : ℕ) (h : List ℕ) where
     pub first : IsTable r c d g
     pub second : IsTable r c e h
 
-  pub both : due (parts_tests r c d g e h) ≡ none → Both
+  pub both : due (parts_tests r c d g e h) ≡ None → Both
   both n = go (table_refusal r c d g) (table_refusal r c e h) refl refl (sym parts_due ∙ n)
     where
-      go : (o p : Option Refusal) → table_refusal r c d g ≡ o → table_refusal r c e h ≡ p → lower_due o p ≡ none → Both
-      go none none a b q = record { first = passed_all r c d g a; second = passed_all r c e h b }
-      go none (some y) a b q = absurd (let z : ◌≡◌ {A = ℕ} 0 1 = cc in omega arith)
-      go (some x) none a b q = absurd (let z : ◌≡◌ {A = ℕ} 0 1 = cc in omega arith)
-      go (some x) (some y) a b q = absurd (let z : ◌≡◌ {A = ℕ} 0 1 = cc in omega arith)
+      go : (o p : Option Refusal) → table_refusal r c d g ≡ o → table_refusal r c e h ≡ p → lower_due o p ≡ None → Both
+      go None None a b q = record { first = passed_all r c d g a; second = passed_all r c e h b }
+      go None (Some y) a b q = absurd (let z : ◌≡◌ {A = ℕ} 0 1 = cc in omega arith)
+      go (Some x) None a b q = absurd (let z : ◌≡◌ {A = ℕ} 0 1 = cc in omega arith)
+      go (Some x) (Some y) a b q = absurd (let z : ◌≡◌ {A = ℕ} 0 1 = cc in omega arith)
 
   -- a cell of either below zero, where none of 1 to 3 applies
-  pub either_below_zero : EitherBelowZero r c d g e h → pooling_refusal r c d g e h ≡ some LargeCell
+  pub either_below_zero : EitherBelowZero r c d g e h → pooling_refusal r c d g e h ≡ Some LargeCell
   unfolding pooling_refusal
   either_below_zero z = due_first (parts_tests r c d g e h) _ LargeCell (parts_due ∙ ⊎_elim first second z.below)
     where
-      first : BelowZero r c d g → lower_due (table_refusal r c d g) (table_refusal r c e h) ≡ some LargeCell
+      first : BelowZero r c d g → lower_due (table_refusal r c d g) (table_refusal r c e h) ≡ Some LargeCell
       first b = ⊎_elim (ap₂ lower_due (below_zero r c d g b)) (ap₂ lower_due (below_zero r c d g b)) (four_or_none r c e h z.second_sizes)
 
-      second : BelowZero r c e h → lower_due (table_refusal r c d g) (table_refusal r c e h) ≡ some LargeCell
+      second : BelowZero r c e h → lower_due (table_refusal r c d g) (table_refusal r c e h) ≡ Some LargeCell
       second b = ⊎_elim
           (λ q. ap₂ lower_due q (below_zero r c e h b))
           (λ q. ap₂ lower_due q (below_zero r c e h b))
@@ -80,35 +80,35 @@ module _ (r c d : ℕ) (g : List ℕ) (e : ℕ) (h : List ℕ) where
 
     pub both_refused : {x y z : Refusal} → one ≡ checked.Refused x → other ≡ checked.Refused y → z ≡ lower_of x y → Refused z ≡ parts_answer r c d g e h
     both_refused {x} {y} {z} a b s =
-        ap Refused s ∙ answered (some (lower_of x y)) (parts_due ∙ rw (not_taken r c d g p x a, not_taken r c e h q y b) refl)
+        ap Refused s ∙ answered (Some (lower_of x y)) (parts_due ∙ rw (not_taken r c d g p x a, not_taken r c e h q y b) refl)
 
     pub first_refused : {x : Refusal} {u : Table} → one ≡ checked.Refused x → other ≡ checked.Accepted u → Refused x ≡ parts_answer r c d g e h
-    first_refused {x} {u} a b = answered (some x) (parts_due ∙ rw (not_taken r c d g p x a, (taken r c e h q u b).nothing_due) refl)
+    first_refused {x} {u} a b = answered (Some x) (parts_due ∙ rw (not_taken r c d g p x a, (taken r c e h q u b).nothing_due) refl)
 
     module _ {t : Table} (a : one ≡ checked.Accepted t) where
       pub second_refused : {y : Refusal} → other ≡ checked.Refused y → Refused y ≡ parts_answer r c d g e h
-      second_refused {y} b = answered (some y) (parts_due ∙ rw ((taken r c d g p t a).nothing_due, not_taken r c e h q y b) refl)
+      second_refused {y} b = answered (Some y) (parts_due ∙ rw ((taken r c d g p t a).nothing_due, not_taken r c e h q y b) refl)
 
       pub both_accepted : {u : Table} → other ≡ checked.Accepted u
           → Accepted (record { cells = t.rows * t.columns; first = t.denominator; second = u.denominator }) ≡ parts_answer r c d g e h
       both_accepted {u} b =
           rw ((taken r c d g p t a).sizes, (taken r c e h q u b).sizes)
-          (answered none (parts_due ∙ rw ((taken r c d g p t a).nothing_due, (taken r c e h q u b).nothing_due) refl))
+          (answered None (parts_due ∙ rw ((taken r c d g p t a).nothing_due, (taken r c e h q u b).nothing_due) refl))
 
 -- what the answer says
 module _ (r c d : ℕ) (g : List ℕ) (e : ℕ) (h : List ℕ) {k : Parts} (is : k ≡ parts_answer r c d g e h) where
-  pub parts_refused : {x : Refusal} → k ≡ Refused x → due (parts_tests r c d g e h) ≡ some x
+  pub parts_refused : {x : Refusal} → k ≡ Refused x → due (parts_tests r c d g e h) ≡ Some x
   unfolding parts_answer
   parts_refused {x} w = go (due (parts_tests r c d g e h)) refl (sym w ∙ is)
     where
       go : (o : Option Refusal) → due (parts_tests r c d g e h) ≡ o
-          → Refused x ≡ refused_or Refused (Accepted (record { cells = r * c; first = d; second = e })) o → due (parts_tests r c d g e h) ≡ some x
-      go none a b = absurd (let z : ◌≡◌ {A = ℕ} 0 1 = cc in omega arith)
-      go (some y) a b = a ∙ cc
+          → Refused x ≡ refused_or Refused (Accepted (record { cells = r * c; first = d; second = e })) o → due (parts_tests r c d g e h) ≡ Some x
+      go None a b = absurd (let z : ◌≡◌ {A = ℕ} 0 1 = cc in omega arith)
+      go (Some y) a b = a ∙ cc
 
   -- two parts that are accepted: nothing is due, and the answer has their cells and denominators
   pub record PairTaken (p : Pair) : Type 0 where
-    pub nothing_due : due (parts_tests r c d g e h) ≡ none
+    pub nothing_due : due (parts_tests r c d g e h) ≡ None
     pub sizes : p ≡ record { cells = r * c; first = d; second = e }
 
   pub parts_taken : {p : Pair} → k ≡ Accepted p → PairTaken p
@@ -117,5 +117,5 @@ module _ (r c d : ℕ) (g : List ℕ) (e : ℕ) (h : List ℕ) {k : Parts} (is :
     where
       go : (o : Option Refusal) → due (parts_tests r c d g e h) ≡ o
           → Accepted p ≡ refused_or Refused (Accepted (record { cells = r * c; first = d; second = e })) o → PairTaken p
-      go none a b = record { nothing_due = a; sizes = cc }
-      go (some y) a b = absurd (let z : ◌≡◌ {A = ℕ} 0 1 = cc in omega arith)
+      go None a b = record { nothing_due = a; sizes = cc }
+      go (Some y) a b = absurd (let z : ◌≡◌ {A = ℕ} 0 1 = cc in omega arith)

@@ -1,8 +1,8 @@
 -- What is due of two parts after their own refusals, and what holds of an accepted pool. Assumes nothing.
+use Rattle.std.specs.Prelude.{Some, None}
 use mathlib.Core.Path.{◌≡◌, sym, ap, ◌∙◌}
 use mathlib.Core.Bool.{true, false, not}
 use mathlib.Core.List.{List, [], ◌∷◌, map}
-use mathlib.Core.Option.{some, none}
 use Prim.Native.Nat.{ℕ, ◌+◌, ◌*◌, ◌/◌, ◌<◌, ◌≤◌}
 use native.Mathlib.Nat.{mul_comm, mul-add, add-mul, mul-zero, mul-mul-mul_comm, div-mul_cancel}
 use native.Mathlib.Omega.{arith}
@@ -27,7 +27,7 @@ use Rattle.pool.specs.Promises.{AddsUp, Pools}
 use Rattle.pool.proofs.Checking.{Both, both}
 
 -- 11 and 12, where nothing is due of the parts
-module _ (r c d : ℕ) (g : List ℕ) (e : ℕ) (h : List ℕ) (free : due (parts_tests r c d g e h) ≡ none) where
+module _ (r c d : ℕ) (g : List ℕ) (e : ℕ) (h : List ℕ) (free : due (parts_tests r c d g e h) ≡ None) where
   eleven : Test
   eleven = refuse Multiple (ltb 65535 (least_multiple d e))
 
@@ -38,7 +38,7 @@ module _ (r c d : ℕ) (g : List ℕ) (e : ℕ) (h : List ℕ) (free : due (part
   unfolding pooling_refusal eleven twelve
   after_parts = due_second (parts_tests r c d g e h) (eleven ∷ twelve ∷ []) free
 
-  pub multiple_due : 65535 < least_multiple d e → pooling_refusal r c d g e h ≡ some Multiple
+  pub multiple_due : 65535 < least_multiple d e → pooling_refusal r c d g e h ≡ Some Multiple
   unfolding eleven
   multiple_due l = after_parts ∙ due_here eleven (twelve ∷ []) (lt-ltb _ _ l)
 
@@ -47,11 +47,11 @@ module _ (r c d : ℕ) (g : List ℕ) (e : ℕ) (h : List ℕ) (free : due (part
     unfolding eleven
     after_multiple = after_parts ∙ due_next eleven (twelve ∷ []) (le-ltb _ _ low)
 
-    pub cell_due : cells_within (least_multiple d e) (pooled_cells d g e h) ≡ false → pooling_refusal r c d g e h ≡ some PooledCell
+    pub cell_due : cells_within (least_multiple d e) (pooled_cells d g e h) ≡ false → pooling_refusal r c d g e h ≡ Some PooledCell
     unfolding twelve
     cell_due q = after_multiple ∙ due_here twelve [] (ap not q)
 
-    pub nothing_due : cells_within (least_multiple d e) (pooled_cells d g e h) ≡ true → pooling_refusal r c d g e h ≡ none
+    pub nothing_due : cells_within (least_multiple d e) (pooled_cells d g e h) ≡ true → pooling_refusal r c d g e h ≡ None
     unfolding twelve due
     nothing_due q = after_multiple ∙ due_next twelve [] (ap not q)
 
@@ -78,8 +78,8 @@ brought a b d e m x y p q =
     omega (arith, add-mul (a * x) (b * y) (d * e), add-mul (x * e) (y * d) m)
 
 -- what holds of an accepted pool
-module _ (r c d : ℕ) (g : List ℕ) (e : ℕ) (h : List ℕ) (accepted : pooling_refusal r c d g e h ≡ none) where
-  free : due (parts_tests r c d g e h) ≡ none
+module _ (r c d : ℕ) (g : List ℕ) (e : ℕ) (h : List ℕ) (accepted : pooling_refusal r c d g e h ≡ None) where
+  free : due (parts_tests r c d g e h) ≡ None
   unfolding pooling_refusal
   free = first_none (parts_tests r c d g e h) _ accepted
 

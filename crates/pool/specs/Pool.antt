@@ -1,7 +1,6 @@
 -- The pool of two tables of one size, and its refusals (specification, "Pooling two tables" and "Refusals"). Assumes nothing.
-use Rattle.std.specs.Prelude.{◌≡◌, not, ◌||◌, ◌⊎◌, ℕ, ◌+◌, ◌*◌, ◌/◌, length, ltb}
+use Rattle.std.specs.Prelude.{◌≡◌, not, ◌||◌, ◌⊎◌, ℕ, ◌+◌, ◌*◌, ◌/◌, length, ltb, Option, None}
 use mathlib.Core.List.{List, [], ◌∷◌, ◌++◌, zip_with}
-use Rattle.std.proofs.Math.Option.{Option, none}
 use Rattle.base.specs.Buffers.{written}
 use Rattle.refusals.specs.declared.Refusal.{Refusal}
 use Rattle.refusals.specs.declared.Refusal.TheVariants.{Multiple, PooledCell, Buffer}
@@ -35,8 +34,8 @@ pooling_refusal r c d g e h = due (pooling_tests r c d g e h)
 
 -- none of 1 to 3 applies to either table, and a cell of either is below zero
 pub record EitherBelowZero (r c d : ℕ) (g : List ℕ) (e : ℕ) (h : List ℕ) : Type 0 where
-  pub first_sizes : due (size_tests r c d (length g)) ≡ none
-  pub second_sizes : due (size_tests r c e (length h)) ≡ none
+  pub first_sizes : due (size_tests r c d (length g)) ≡ None
+  pub second_sizes : due (size_tests r c e (length h)) ≡ None
   pub below : BelowZero r c d g ⊎ BelowZero r c e h
 
 -- the two buffers that the call is lent, for the denominator and for the cells

@@ -1,6 +1,5 @@
 -- What holds of the pool of every two tables that are not refused (specification, "Pooling two tables"). Assumes nothing.
-use Rattle.std.specs.Prelude.{◌≡◌, List, ℕ, ◌+◌, ◌*◌}
-use Rattle.std.proofs.Math.Option.{none}
+use Rattle.std.specs.Prelude.{◌≡◌, List, ℕ, ◌+◌, ◌*◌, None}
 use Rattle.table.specs.Table.{total}
 use Rattle.table.specs.Check.{table_refusal}
 use Rattle.multiples.specs.Multiple.{least_multiple, LeastMultiple}
@@ -17,4 +16,4 @@ pub record Pools (r c d : ℕ) (g : List ℕ) (e : ℕ) (h : List ℕ) : Type 0 
   -- the pooled expected count is the sum of the two, exactly: at any places, so for a cell, a row, a column and the grand total
   pub exact : (s : List ℕ) → AddsUp (total (pooled_cells d g e h) s) (least_multiple d e) (total g s) d (total h s) e
   -- the pool is a table that is accepted
-  pub accepted : table_refusal r c (least_multiple d e) (pooled_cells d g e h) ≡ none
+  pub accepted : table_refusal r c (least_multiple d e) (pooled_cells d g e h) ≡ None

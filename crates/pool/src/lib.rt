@@ -1,8 +1,7 @@
 // The pool of two tables of one size: their expected counts added up exactly, over the least common multiple of their denominators.
 #![tactic(auto)]
 
-ghost use Rattle.std.specs.Prelude.{◌≡◌, List, map, ℕ, length};
-ghost use Rattle.std.proofs.Math.Option.{none, some};
+ghost use Rattle.std.specs.Prelude.{◌≡◌, List, map, ℕ, length, None, Some};
 ghost use Rattle.refusals.specs.declared.Refusal.TheVariants.{LargeCell};
 ghost use Rattle.refusals.specs.Due.{Answers};
 ghost use Rattle.pool.specs.Pool.{pooling_refusal, EitherBelowZero, pool_refusal, lent, pooled_into};
@@ -89,7 +88,7 @@ pub fn pool(
 // Of every two tables that are not refused the pool is their exact sum, over the least common multiple, and an accepted table; a cell of either below zero is
 // 4, where none of 1 to 3 applies; and the literal cases are as stated: equal, coprime and dividing denominators, the bounds of 11 and 12, each refusal, and each two of them at once.
 pub fn claims()
-    ensures pools { (r c d : ℕ) (g : List ℕ) (e : ℕ) (h : List ℕ) → pooling_refusal r c d g e h ≡ none → Pools r c d g e h }
-    ensures below_zero { (r c d : ℕ) (g : List ℕ) (e : ℕ) (h : List ℕ) → EitherBelowZero r c d g e h → pooling_refusal r c d g e h ≡ some LargeCell }
+    ensures pools { (r c d : ℕ) (g : List ℕ) (e : ℕ) (h : List ℕ) → pooling_refusal r c d g e h ≡ None → Pools r c d g e h }
+    ensures below_zero { (r c d : ℕ) (g : List ℕ) (e : ℕ) (h : List ℕ) → EitherBelowZero r c d g e h → pooling_refusal r c d g e h ≡ Some LargeCell }
     ensures cases { map pooled cases ≡ map said cases }
 {}

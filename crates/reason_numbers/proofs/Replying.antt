@@ -1,8 +1,8 @@
 -- The ways through the call that writes a reason. Assumes nothing.
+use Rattle.std.specs.Prelude.{Option, Some, None}
 use mathlib.Core.Path.{◌≡◌, refl, sym, ap, ◌∙◌}
 use mathlib.Core.Bool.{Bool, true, false, cond}
 use mathlib.Core.List.{List, [], ◌∷◌, ◌++◌}
-use mathlib.Core.Option.{Option, some, none}
 use Prim.Native.Nat.{ℕ, ◌<◌, ◌≤◌}
 use native.Mathlib.Omega.{arith}
 use lib.ListN.{length}
@@ -59,16 +59,16 @@ module _ (r c d : ℕ) (g : List ℕ) (k : ℕ) (reply : List ℕ) {x : Reply} (
   unfolding reply_refusal reason_refusal
   reply_refused {y} h = refused_so (due_first (reason_tests r c d g k) (room_tests (length reply)) y (go (reason_refusal r c d g k) refl))
     where
-      go : (o : Option Refusal) → reason_refusal r c d g k ≡ o → reason_refusal r c d g k ≡ some y
-      go none q = absurd (told r c (round_at r c d g k) (sym (refusal_of none q) ∙ h))
-      go (some z) q = let e : Refused z ≡ Refused y = sym (refusal_of (some z) q) ∙ h in let i : z ≡ y = cc in q ∙ ap some i
+      go : (o : Option Refusal) → reason_refusal r c d g k ≡ o → reason_refusal r c d g k ≡ Some y
+      go None q = absurd (told r c (round_at r c d g k) (sym (refusal_of None q) ∙ h))
+      go (Some z) q = let e : Refused z ≡ Refused y = sym (refusal_of (Some z) q) ∙ h in let i : z ≡ y = cc in q ∙ ap Some i
 
-  none_due : ((y : Refusal) → x ≡ Refused y → ⊥) → reason_refusal r c d g k ≡ none
+  none_due : ((y : Refusal) → x ≡ Refused y → ⊥) → reason_refusal r c d g k ≡ None
   none_due n = go (reason_refusal r c d g k) refl
     where
-      go : (o : Option Refusal) → reason_refusal r c d g k ≡ o → reason_refusal r c d g k ≡ none
-      go none q = q
-      go (some z) q = absurd (n z (refusal_of (some z) q))
+      go : (o : Option Refusal) → reason_refusal r c d g k ≡ o → reason_refusal r c d g k ≡ None
+      go None q = q
+      go (Some z) q = absurd (n z (refusal_of (Some z) q))
 
   -- else its numbers are written where there is room
   module _ {m : List ℕ} (n : (y : Refusal) → x ≡ Refused y → ⊥) (numbers : reason_numbers x ≡ m) where
@@ -104,10 +104,10 @@ pub reply_number_lem : (r c d : ℕ) (g : List ℕ) (k room : ℕ) → 4 ≤ roo
 unfolding reply_refusal reason_refusal reason_answer answer_of due
 reply_number_lem r c d g k room h = go (due (reason_tests r c d g k)) refl
   where
-    none_more : due (room_tests room) ≡ none
+    none_more : due (room_tests room) ≡ None
     none_more = simp (le-ltb room 4 h)
 
     go : (o : Option Refusal) → due (reason_tests r c d g k) ≡ o
         → answer_number (answer_of (due (reason_tests r c d g k ++ room_tests room))) ≡ reply_number (refused_or Refused (reason_of r c (round_at r c d g k)) (due (reason_tests r c d g k)))
-    go none q = rw (due_second (reason_tests r c d g k) (room_tests room) q, none_more, q) (sym (reason_zero r c (round_at r c d g k)))
-    go (some x) q = rw (due_first (reason_tests r c d g k) (room_tests room) x q, q) refl
+    go None q = rw (due_second (reason_tests r c d g k) (room_tests room) q, none_more, q) (sym (reason_zero r c (round_at r c d g k)))
+    go (Some x) q = rw (due_first (reason_tests r c d g k) (room_tests room) x q, q) refl

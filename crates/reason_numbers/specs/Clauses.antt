@@ -1,6 +1,5 @@
 -- What the function that writes a reason's numbers is held to. Assumes nothing.
-use Rattle.std.proofs.Math.Option.{Option}
-use Rattle.std.specs.Prelude.{ℕ}
+use Rattle.std.specs.Prelude.{ℕ, Option}
 use Rattle.refusals.specs.declared.Refusal.{Refusal}
 use Rattle.refusals.specs.Due.{due}
 use Rattle.reason_numbers.specs.Numbers.{room_tests}

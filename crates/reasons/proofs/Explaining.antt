@@ -1,7 +1,7 @@
 -- What holds of the reason of every array of an accepted table. Assumes nothing.
+use Rattle.std.specs.Prelude.{None}
 use mathlib.Core.Path.{◌≡◌, refl, sym, ap, subst, ◌∙◌}
 use mathlib.Core.Bool.{true}
-use mathlib.Core.Option.{none}
 use mathlib.Core.List.Memᴰ
 use mathlib.Core.List.Memᴰ.{head as here}
 use mathlib.Core.List.{List, map, Memᴰ as Member}
@@ -151,10 +151,10 @@ module _ {r c d : ℕ} {g : List ℕ} (t : IsTable r c d g) (k : ℕ) (some : 1 
   }
 
 -- of every array that is there
-pub every_explained : (r c d : ℕ) (g : List ℕ) (k : ℕ) → reason_refusal r c d g k ≡ none → Explained r c d g k
+pub every_explained : (r c d : ℕ) (g : List ℕ) (k : ℕ) → reason_refusal r c d g k ≡ None → Explained r c d g k
 unfolding reason_refusal table_refusal
 every_explained r c d g k h =
-    let free : due (table_tests r c d g) ≡ none = first_none (table_tests r c d g) _ h in
+    let free : due (table_tests r c d g) ≡ None = first_none (table_tests r c d g) _ h in
     let t : IsTable r c d g = passed_all r c d g free in
     let n = asked_inside t k h in
     explained t k n.0 n.1

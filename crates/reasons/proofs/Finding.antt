@@ -1,8 +1,8 @@
 -- What the loop over the rounds up to an array's own keeps, and what it answers. Assumes nothing.
+use Rattle.std.specs.Prelude.{Some, None}
 use mathlib.Core.Path.{◌≡◌, sym, ap, ◌∙◌}
 use mathlib.Core.Bool.{true, false, not, false≢true}
 use mathlib.Core.List.{List, [], ◌∷◌}
-use mathlib.Core.Option.{some, none}
 use Prim.Native.Nat.{ℕ, ◌+◌, ◌-◌, ◌<◌, ◌≤◌}
 use native.Mathlib.Decide.{dec_lt}
 use native.Mathlib.Omega.{arith}
@@ -38,16 +38,16 @@ module _ {r c d : ℕ} {g : List ℕ} (t : IsTable r c d g) (k : ℕ) where
   unfolding reason_refusal table_refusal
   asked = due_second (table_tests r c d g) _ (table_accepted t)
 
-  pub has_array : 1 ≤ k → k ≤ length (plan_rounds r c d g) → reason_refusal r c d g k ≡ none
+  pub has_array : 1 ≤ k → k ≤ length (plan_rounds r c d g) → reason_refusal r c d g k ≡ None
   unfolding due
   has_array h l = asked ∙ simp (inside (length (plan_of r c d g).arrays) k h (omega (arith, arrays_are_rounds r c d g)))
 
-  pub no_array : up_to (length (plan_rounds r c d g)) k ≡ false → reason_refusal r c d g k ≡ some Array
+  pub no_array : up_to (length (plan_rounds r c d g)) k ≡ false → reason_refusal r c d g k ≡ Some Array
   unfolding due
   no_array h = asked ∙ simp (ap (λ (n : ℕ). up_to n k) (arrays_are_rounds r c d g) ∙ h)
 
   -- nothing is due: there is such an array
-  pub asked_inside : reason_refusal r c d g k ≡ none → (1 ≤ k) × (k ≤ length (plan_rounds r c d g))
+  pub asked_inside : reason_refusal r c d g k ≡ None → (1 ≤ k) × (k ≤ length (plan_rounds r c d g))
   asked_inside h = go (dec_lt k 1) (dec_lt (length (plan_rounds r c d g)) k)
     where
       refused : up_to (length (plan_rounds r c d g)) k ≡ false → ⊥
@@ -81,12 +81,12 @@ module _ {r c d : ℕ} {g : List ℕ} {array w k : ℕ} {e : List ℕ} (o : Pass
       shape = o.reached.progress.shape;
       grid = o.reached.grid;
       small = (entries_left o.reached).small;
-      some = wp;
+      Some = wp;
       most = weight_left o.reached;
     }
 
     pub round_ready : (n : List ℕ) → length n ≡ 169 → RoundReady w e n
-    round_ready n h = record { grid = entries_left o.reached; some = wp; small = weight_left o.reached; len = h }
+    round_ready n h = record { grid = entries_left o.reached; Some = wp; small = weight_left o.reached; len = h }
 
     module _ {a : List ℕ} {x : ℕ} {e' : List ℕ} (u : RoundDone w e a x e') where
       pub weight_most : x ≤ w
@@ -103,7 +103,7 @@ module _ {r c d : ℕ} {g : List ℕ} {array w k : ℕ} {e : List ℕ} (o : Pass
         let z : Round = record { left = 0; table = []; array = record { weight = 0; counts = [] } } in
         let at : array - 1 ≡ k = omega arith in
         let round : round_at r c d g array ≡ round_on r c w o.reached.rest = ap (λ (i : ℕ). get_or (plan_rounds r c d g) i z) at ∙ round_is p wp z in
-        let free : reason_refusal r c d g array ≡ none = has_array o.reached.table array (omega arith) (omega (arith, more_rounds p wp)) in
+        let free : reason_refusal r c d g array ≡ None = has_array o.reached.table array (omega arith) (omega (arith, more_rounds p wp)) in
         h o.reached.rest p.shape o.reached.grid
         ∙ sym (ap (refused_or Refused (reason_of r c (round_at r c d g array))) free ∙ ap (reason_of r c) round)
 
@@ -119,5 +119,5 @@ module _ {r c d : ℕ} {g : List ℕ} {array w k : ℕ} {e : List ℕ} (o : Pass
   unfolding reason_answer
   no_round z =
       let all : length (plan_rounds r c d g) ≡ k = all_rounds (omega arith) o.reached.progress in
-      let due : reason_refusal r c d g array ≡ some Array = no_array o.reached.table array (ap (λ (n : ℕ). up_to n array) all ∙ o.not_yet) in
+      let due : reason_refusal r c d g array ≡ Some Array = no_array o.reached.table array (ap (λ (n : ℕ). up_to n array) all ∙ o.not_yet) in
       sym (ap (refused_or Refused (reason_of r c (round_at r c d g array))) due)

@@ -1,6 +1,5 @@
 -- Asking which entry set the weight of an array (specification, "Which entry set the weight" and "Refusals": 1, 2, 3, 4, 14). Assumes nothing.
-use Rattle.std.specs.Prelude.{not, List, [], ◌∷◌, ◌++◌, ℕ, ◌-◌, length, get_or}
-use Rattle.std.proofs.Math.Option.{Option}
+use Rattle.std.specs.Prelude.{not, List, [], ◌∷◌, ◌++◌, ℕ, ◌-◌, length, get_or, Option}
 use Rattle.refusals.specs.declared.Refusal.{Refusal}
 use Rattle.refusals.specs.declared.Refusal.TheVariants.{Array}
 use Rattle.refusals.specs.Due.{Test, refuse, due, refused_or}

@@ -1,8 +1,7 @@
 // Which entry set the weight of an array of a table's plan.
 #![tactic(auto)]
 
-ghost use Rattle.std.specs.Prelude.{◌≡◌, List, map, ℕ};
-ghost use Rattle.std.proofs.Math.Option.{none};
+ghost use Rattle.std.specs.Prelude.{◌≡◌, List, map, ℕ, None};
 ghost use Rattle.table.specs.Table.{entry_places};
 ghost use Rattle.reasons.specs.Reason.{named_entries, places_of};
 ghost use Rattle.reasons.specs.Call.{reason_refusal, reason_answer};
@@ -47,6 +46,6 @@ pub fn reason(rows: u32, columns: u32, denominator: u32, cells: &[u32], array: u
 
 // What holds of the reason of every array of an accepted table; and the named entries are the table's, in their order.
 pub fn claims()
-    ensures explained { (r c d : ℕ) (g : List ℕ) (k : ℕ) → reason_refusal r c d g k ≡ none → Explained r c d g k }
+    ensures explained { (r c d : ℕ) (g : List ℕ) (k : ℕ) → reason_refusal r c d g k ≡ None → Explained r c d g k }
     ensures named { (r c : ℕ) → map (places_of r c) (named_entries r c) ≡ entry_places r c }
 {}

@@ -1,6 +1,5 @@
 -- Which refusal a call returns: the first of its list that applies (specification, "Refusals"). Assumes nothing.
-use Rattle.std.specs.Prelude.{◌≡◌, Bool, true, false, not, List, [], ◌∷◌, ◌++◌}
-use Rattle.std.proofs.Math.Option.{Option, some, none}
+use Rattle.std.specs.Prelude.{◌≡◌, Bool, true, false, not, List, [], ◌∷◌, ◌++◌, Option, Some, None}
 use Rattle.base.specs.Lists.{all}
 use Rattle.refusals.specs.declared.Refusal.{Refusal}
 use Rattle.refusals.specs.declared.Answer.{Answer}
@@ -16,8 +15,8 @@ refuse x b = record { applies = b; refusal = x }
 
 -- the first refusal, in the order of the list, whose condition holds; none where no condition holds
 unfoldable pub due : List Test → Option Refusal
-due [] = none
-due (t ∷ l) = elim t.applies [ true ↦ some t.refusal | false ↦ due l ]
+due [] = None
+due (t ∷ l) = elim t.applies [ true ↦ Some t.refusal | false ↦ due l ]
 
 -- no condition of a list holds
 abbrev pub none_applies : List Test → Bool
@@ -35,8 +34,8 @@ pub record FirstDue (l : List Test) (x : Refusal) : Type 0 where
 
 -- by cases of what is due: something of the refusal, or what there is without one
 abbrev pub refused_or {ℓ} : {A : Type ℓ} → (Refusal → A) → A → Option Refusal → A
-refused_or refused accepted none = accepted
-refused_or refused accepted (some x) = refused x
+refused_or refused accepted None = accepted
+refused_or refused accepted (Some x) = refused x
 
 -- the answer of a call that returns nothing but its success
 unfoldable pub answer_of : Option Refusal → Answer

@@ -1,8 +1,7 @@
 // Refusals, their numbers, and which one a call returns.
 #![tactic(auto)]
 
-ghost use Rattle.std.specs.Prelude.{◌≡◌, true, List, get_or};
-ghost use Rattle.std.proofs.Math.Option.{some, none};
+ghost use Rattle.std.specs.Prelude.{◌≡◌, true, List, get_or, Some, None};
 ghost use Rattle.refusals.specs.Numbers.{number_of};
 ghost use Rattle.refusals.specs.Places.{order, order_on_plan, place_in};
 ghost use Rattle.refusals.specs.Answer.{answer_number};
@@ -97,7 +96,7 @@ pub fn answer_number(a: Answer) -> u32
 // Of any list of conditions and refusals: what is returned applies, and nothing before it does; and nothing is returned exactly if none applies. In either
 // order each refusal's number stands at its place, so that no two share one.
 pub fn claims()
-    ensures first { (l : List Test) (x : Refusal) → due l ≡ some x → FirstDue l x }
-    ensures none { (l : List Test) → (due l ≡ none → none_applies l ≡ true) × (none_applies l ≡ true → due l ≡ none) }
+    ensures first { (l : List Test) (x : Refusal) → due l ≡ Some x → FirstDue l x }
+    ensures none { (l : List Test) → (due l ≡ None → none_applies l ≡ true) × (none_applies l ≡ true → due l ≡ None) }
     ensures places { (x : Refusal) → (get_or order (place_in order x) 0 ≡ number_of x) × (get_or order_on_plan (place_in order_on_plan x) 0 ≡ number_of x) }
 {}

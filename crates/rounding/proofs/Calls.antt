@@ -1,8 +1,8 @@
 -- From an accepted table to the buffer that its rounding is written to. Assumes nothing.
+use Rattle.std.specs.Prelude.{Some, None}
 use mathlib.Core.Path.{◌≡◌, ap, ◌∙◌}
 use mathlib.Core.Bool.{true}
 use mathlib.Core.List.{List}
-use mathlib.Core.Option.{some, none}
 use Prim.Native.Nat.{ℕ, ◌*◌, ◌<◌, ◌≤◌}
 use native.Mathlib.Omega.{arith}
 use lib.ListN.{length}
@@ -56,7 +56,7 @@ module _ {r c d : ℕ} {g : List ℕ} (t : IsTable r c d g) where
 
 -- the ways through the call
 module _ (r c d : ℕ) (g : List ℕ) (room : ℕ) {k : Checked} (e : k ≡ check_of r c d g) where
-  pub refused : {x : Refusal} → k ≡ checked.Refused x → round_refusal r c d g room ≡ some x
+  pub refused : {x : Refusal} → k ≡ checked.Refused x → round_refusal r c d g room ≡ Some x
   unfolding round_refusal
   refused h = refused_table r c d g room (r * c) _ (not_taken r c d g e _ h)
 
@@ -67,11 +67,11 @@ module _ (r c d : ℕ) (g : List ℕ) (room : ℕ) {k : Checked} (e : k ≡ chec
     pub is_table : IsTable t.rows t.columns t.denominator g
     is_table = rw told.sizes told.table
 
-    pub short : room < t.rows * t.columns → round_refusal r c d g room ≡ some Buffer
+    pub short : room < t.rows * t.columns → round_refusal r c d g room ≡ Some Buffer
     unfolding round_refusal
     short l = refused_buffer r c d g room (r * c) told.nothing_due (rw told.sizes at l)
 
-    pub enough : t.rows * t.columns ≤ room → round_refusal r c d g room ≡ none
+    pub enough : t.rows * t.columns ≤ room → round_refusal r c d g room ≡ None
     unfolding round_refusal
     enough l = refused_nothing r c d g room (r * c) told.nothing_due (rw told.sizes at l)
 

@@ -1,9 +1,9 @@
 -- What the check of a table says on each way through its tests. Assumes nothing.
+use Rattle.std.specs.Prelude.{Option, Some, None}
 use mathlib.Core.Path.{◌≡◌, refl, sym, ◌∙◌}
 use mathlib.Core.Bool.{Bool, true, false, not, ◌&&◌}
 use mathlib.Core.List.{List, [], ◌∷◌, ◌++◌}
 use mathlib.Core.Logic.{◌⊎◌, inl, inr}
-use mathlib.Core.Option.{Option, some, none}
 use Prim.Native.Nat.{ℕ, ◌+◌, ◌*◌, ◌<◌, ◌≤◌}
 use native.Mathlib.Omega.{arith}
 use lib.ListN.{length, get_or}
@@ -34,7 +34,7 @@ pub inside : (bound n : ℕ) → 1 ≤ n → n ≤ bound → up_to bound n ≡ t
 inside bound n h l = sym (small_enough bound n h) ∙ le-leb n bound l
 
 pub too_large : (bound n : ℕ) → bound < n → false ≡ up_to bound n
-too_large bound n h = let some : 1 ≤ n = omega arith in simp (le-leb 1 n some, lt-leb n bound h)
+too_large bound n h = let Some : 1 ≤ n = omega arith in simp (le-leb 1 n Some, lt-leb n bound h)
 
 pub up_to_low : (bound n : ℕ) → up_to bound n ≡ true → 1 ≤ n
 up_to_low bound n h = leb-true 1 n (and_left (leb 1 n) (leb n bound) h)
@@ -112,7 +112,7 @@ pub record Sized (r c d n : ℕ) : Type 0 where
   pub some_denominator : 1 ≤ d
   pub denominator : d ≤ 65535
 
-pub passed_sizes : (r c d n : ℕ) → due (size_tests r c d n) ≡ none → Sized r c d n
+pub passed_sizes : (r c d n : ℕ) → due (size_tests r c d n) ≡ None → Sized r c d n
 passed_sizes r c d n h =
     let size : (up_to 12 r && up_to 12 c) ≡ true = not-false _ (not_here _ _ h) in
     let h₁ = not_later _ _ h in
@@ -132,22 +132,22 @@ passed_sizes r c d n h =
 
 -- what an answer says of what is due
 module _ (r c d : ℕ) (o : Option Refusal) where
-  pub answered_refused : (x : Refusal) → Refused x ≡ answered r c d o → o ≡ some x
+  pub answered_refused : (x : Refusal) → Refused x ≡ answered r c d o → o ≡ Some x
   answered_refused x e = go o refl e
     where
-      go : (u : Option Refusal) → o ≡ u → Refused x ≡ answered r c d u → o ≡ some x
-      go none p q = let z : ◌≡◌ {A = ℕ} 0 1 = cc in absurd (omega arith)
-      go (some y) p q = p ∙ cc
+      go : (u : Option Refusal) → o ≡ u → Refused x ≡ answered r c d u → o ≡ Some x
+      go None p q = let z : ◌≡◌ {A = ℕ} 0 1 = cc in absurd (omega arith)
+      go (Some y) p q = p ∙ cc
 
-  pub answered_nothing : (t : Table) → Accepted t ≡ answered r c d o → o ≡ none
+  pub answered_nothing : (t : Table) → Accepted t ≡ answered r c d o → o ≡ None
   answered_nothing t e = go o refl e
     where
-      go : (u : Option Refusal) → o ≡ u → Accepted t ≡ answered r c d u → o ≡ none
-      go none p q = p
-      go (some x) p q = let z : ◌≡◌ {A = ℕ} 0 1 = cc in absurd (omega arith)
+      go : (u : Option Refusal) → o ≡ u → Accepted t ≡ answered r c d u → o ≡ None
+      go None p q = p
+      go (Some x) p q = let z : ◌≡◌ {A = ℕ} 0 1 = cc in absurd (omega arith)
 
   pub answered_sizes : (t : Table) → Accepted t ≡ answered r c d o → t ≡ record { rows = r; columns = c; denominator = d }
-  answered_sizes t e = let n = answered_nothing t e in let f : Accepted t ≡ answered r c d none = rw n at e in cc
+  answered_sizes t e = let n = answered_nothing t e in let f : Accepted t ≡ answered r c d None = rw n at e in cc
 
 -- the ways through the check of n cells that are within their bounds or not, whatever kind of number a cell is
 module _ (r c d n : ℕ) {k : Checked} (e : k ≡ sizes_of r c d n) where
@@ -157,7 +157,7 @@ module _ (r c d n : ℕ) {k : Checked} (e : k ≡ sizes_of r c d n) where
       rw (due_first (size_tests r c d n) (refuse LargeCell (not within) ∷ []) x (answered_refused r c d (due (size_tests r c d n)) x (sym h ∙ e))) refl
 
   module _ {t : Table} (h : k ≡ Accepted t) where
-    nothing : due (size_tests r c d n) ≡ none
+    nothing : due (size_tests r c d n) ≡ None
     unfolding sizes_of
     nothing = answered_nothing r c d (due (size_tests r c d n)) t (sym h ∙ e)
 
@@ -187,12 +187,12 @@ sized_table s h = record {
 }
 
 -- of one list of tests and one test more nothing is due: so not of that test
-pub last_passed : (l : List Test) (x : Refusal) (b : Bool) → due (l ++ (refuse x (not b) ∷ [])) ≡ none → b ≡ true
+pub last_passed : (l : List Test) (x : Refusal) (b : Bool) → due (l ++ (refuse x (not b) ∷ [])) ≡ None → b ≡ true
 last_passed l x b h = not-false b (not_here _ _ (sym (due_second l (refuse x (not b) ∷ []) (first_none l _ h)) ∙ h))
 
 -- what the answer of the check says
 module _ (r c d : ℕ) (g : List ℕ) where
-  pub passed_all : table_refusal r c d g ≡ none → IsTable r c d g
+  pub passed_all : table_refusal r c d g ≡ None → IsTable r c d g
   unfolding table_refusal
   passed_all h =
       sized_table (passed_sizes r c d (length g) (first_none (size_tests r c d (length g)) _ h))
@@ -202,7 +202,7 @@ module _ (r c d : ℕ) (g : List ℕ) where
   pub record Taken (t : Table) : Type 0 where
     pub table : IsTable r c d g
     pub sizes : t ≡ record { rows = r; columns = c; denominator = d }
-    pub nothing_due : table_refusal r c d g ≡ none
+    pub nothing_due : table_refusal r c d g ≡ None
 
   pub accepted : (t : Table) → Accepted t ≡ check_of r c d g → Taken t
   unfolding check_of check_of_cells table_refusal
@@ -210,29 +210,29 @@ module _ (r c d : ℕ) (g : List ℕ) where
       let nothing = answered_nothing r c d (table_refusal r c d g) t e in
       record { table = passed_all nothing; sizes = answered_sizes r c d (table_refusal r c d g) t e; nothing_due = nothing }
 
-  pub refused : (x : Refusal) → Refused x ≡ check_of r c d g → table_refusal r c d g ≡ some x
+  pub refused : (x : Refusal) → Refused x ≡ check_of r c d g → table_refusal r c d g ≡ Some x
   unfolding check_of check_of_cells table_refusal
   refused x e = answered_refused r c d (table_refusal r c d g) x e
 
 -- a cell below zero is above the bound of every denominator
-pub below_zero : (r c d : ℕ) (g : List ℕ) → BelowZero r c d g → table_refusal r c d g ≡ some LargeCell
+pub below_zero : (r c d : ℕ) (g : List ℕ) → BelowZero r c d g → table_refusal r c d g ≡ Some LargeCell
 unfolding table_refusal due
 below_zero r c d g z = due_second (size_tests r c d (length g)) (refuse LargeCell (not (cells_within d g)) ∷ []) z.sizes ∙ go (cells_within d g) refl
   where
-    go : (b : Bool) → cells_within d g ≡ b → due (refuse LargeCell (not (cells_within d g)) ∷ []) ≡ some LargeCell
+    go : (b : Bool) → cells_within d g ≡ b → due (refuse LargeCell (not (cells_within d g)) ∷ []) ≡ Some LargeCell
     go false e = rw e refl
     go true e =
         let low = leb-true z.cell (1000 * d) (all_at_member _ g e z.there) in
         absurd (omega (arith, low, z.below, (passed_sizes r c d (length g) z.sizes).denominator))
 
 -- a table of such sizes meets 4 or nothing
-pub four_or_none : (r c d : ℕ) (g : List ℕ) → due (size_tests r c d (length g)) ≡ none → (table_refusal r c d g ≡ none) ⊎ (table_refusal r c d g ≡ some LargeCell)
+pub four_or_none : (r c d : ℕ) (g : List ℕ) → due (size_tests r c d (length g)) ≡ None → (table_refusal r c d g ≡ None) ⊎ (table_refusal r c d g ≡ Some LargeCell)
 unfolding table_refusal due
 four_or_none r c d g h = go (cells_within d g) refl
   where
     sized : table_refusal r c d g ≡ due (refuse LargeCell (not (cells_within d g)) ∷ [])
     sized = due_second (size_tests r c d (length g)) (refuse LargeCell (not (cells_within d g)) ∷ []) h
 
-    go : (b : Bool) → cells_within d g ≡ b → (table_refusal r c d g ≡ none) ⊎ (table_refusal r c d g ≡ some LargeCell)
+    go : (b : Bool) → cells_within d g ≡ b → (table_refusal r c d g ≡ None) ⊎ (table_refusal r c d g ≡ Some LargeCell)
     go true e = inl (sized ∙ rw e refl)
     go false e = inr (sized ∙ rw e refl)

@@ -1,8 +1,8 @@
 -- An accepted table is refused nothing; and the calls that take a table and a lent buffer. Assumes nothing.
+use Rattle.std.specs.Prelude.{Some, None}
 use mathlib.Core.Path.{◌≡◌, sym, ◌∙◌}
 use mathlib.Core.Bool.{true}
 use mathlib.Core.List.{List, [], ◌∷◌, ◌++◌}
-use mathlib.Core.Option.{some, none}
 use Prim.Native.Nat.{ℕ, ◌<◌, ◌≤◌}
 use lib.Dec.{ltb}
 use borrow.Author.Tests.{le-leb, eq-eqb, lt-ltb, le-ltb}
@@ -18,7 +18,7 @@ use Rattle.table.specs.declared.Checked.{Checked}
 use Rattle.table.specs.declared.Checked.TheVariants as checked
 use Rattle.table.proofs.Checks.{inside, Taken, accepted, refused}
 
-pub table_accepted : {r c d : ℕ} {g : List ℕ} → IsTable r c d g → table_refusal r c d g ≡ none
+pub table_accepted : {r c d : ℕ} {g : List ℕ} → IsTable r c d g → table_refusal r c d g ≡ None
 unfolding table_refusal due
 table_accepted {r} {c} {d} {g} t =
     let s = t.shape in
@@ -38,7 +38,7 @@ module _ (r c d : ℕ) (g : List ℕ) {k : Checked} (e : k ≡ check_of r c d g)
   pub taken : (t : Table) → k ≡ checked.Accepted t → Taken r c d g t
   taken t h = accepted r c d g t (sym h ∙ e)
 
-  pub not_taken : (x : Refusal) → k ≡ checked.Refused x → table_refusal r c d g ≡ some x
+  pub not_taken : (x : Refusal) → k ≡ checked.Refused x → table_refusal r c d g ≡ Some x
   not_taken x h = refused r c d g x (sym h ∙ e)
 
 -- the refusals of a call that takes a table and a buffer of `room`, and needs `need` of it
@@ -46,15 +46,15 @@ module _ (r c d : ℕ) (g : List ℕ) (room need : ℕ) where
   buffer : List Test
   buffer = refuse Buffer (ltb room need) ∷ []
 
-  pub refused_table : (x : Refusal) → table_refusal r c d g ≡ some x → due (table_tests r c d g ++ (refuse Buffer (ltb room need) ∷ [])) ≡ some x
+  pub refused_table : (x : Refusal) → table_refusal r c d g ≡ Some x → due (table_tests r c d g ++ (refuse Buffer (ltb room need) ∷ [])) ≡ Some x
   unfolding table_refusal
   refused_table x h = due_first (table_tests r c d g) _ x h
 
-  module _ (h : table_refusal r c d g ≡ none) where
-    pub refused_buffer : room < need → due (table_tests r c d g ++ (refuse Buffer (ltb room need) ∷ [])) ≡ some Buffer
+  module _ (h : table_refusal r c d g ≡ None) where
+    pub refused_buffer : room < need → due (table_tests r c d g ++ (refuse Buffer (ltb room need) ∷ [])) ≡ Some Buffer
     unfolding table_refusal due buffer
     refused_buffer l = due_second (table_tests r c d g) buffer h ∙ simp (lt-ltb room need l)
 
-    pub refused_nothing : need ≤ room → due (table_tests r c d g ++ (refuse Buffer (ltb room need) ∷ [])) ≡ none
+    pub refused_nothing : need ≤ room → due (table_tests r c d g ++ (refuse Buffer (ltb room need) ∷ [])) ≡ None
     unfolding table_refusal due buffer
     refused_nothing l = due_second (table_tests r c d g) buffer h ∙ simp (le-ltb room need l)

@@ -1,7 +1,6 @@
 -- Which refusal a table meets (specification, "Refusals"). Assumes nothing.
-use Rattle.std.specs.Prelude.{◌≡◌, Bool, not, ◌&&◌, ℕ, ◌*◌, ◌≤◌, length, leb, eqb}
+use Rattle.std.specs.Prelude.{◌≡◌, Bool, not, ◌&&◌, ℕ, ◌*◌, ◌≤◌, length, leb, eqb, Option, None}
 use mathlib.Core.List.{List, [], ◌∷◌, ◌++◌, Memᴰ as Member}
-use Rattle.std.proofs.Math.Option.{Option, none}
 use Rattle.base.specs.Lists.{all}
 use Rattle.refusals.specs.declared.Refusal.{Refusal}
 use Rattle.refusals.specs.declared.Refusal.TheVariants.{Size, Denominator, CellCount, LargeCell}
@@ -50,7 +49,7 @@ table_refusal r c d g = due (table_tests r c d g)
 
 -- none of 1 to 3 applies, and a cell is 2³¹ or more: so is each cell below zero that is handed over as its 32 bits
 pub record BelowZero (r c d : ℕ) (g : List ℕ) : Type 0 where
-  pub sizes : due (size_tests r c d (length g)) ≡ none
+  pub sizes : due (size_tests r c d (length g)) ≡ None
   pub cell : ℕ
   pub there : Member cell g
   pub below : 2147483648 ≤ cell

@@ -1,7 +1,6 @@
 -- What inner functions, here and in crates above, may rely on once a table is accepted, what the division of an entry requires and gives, and what a check
 -- answers. Assumes nothing.
-use Rattle.std.specs.Prelude.{◌≡◌, Bool, List, ℕ, ◌+◌, ◌*◌, ◌<◌, ◌≤◌, ◌%◌, ◌^◌, length, get_or}
-use Rattle.std.proofs.Math.Option.{Option}
+use Rattle.std.specs.Prelude.{◌≡◌, Bool, List, ℕ, ◌+◌, ◌*◌, ◌<◌, ◌≤◌, ◌%◌, ◌^◌, length, get_or, Option}
 use Rattle.table.specs.Table.{max_rows, max_columns, max_denominator, max_expected}
 use Rattle.refusals.specs.declared.Refusal.{Refusal}
 use Rattle.refusals.specs.Numbers.{number_of}

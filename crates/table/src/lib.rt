@@ -1,8 +1,7 @@
 // Tables of expected counts: their bounds, their refusals and their entries.
 #![tactic(auto)]
 
-ghost use Rattle.std.specs.Prelude.{◌≡◌, List, [], ◌∷◌, map, ℕ};
-ghost use Rattle.std.proofs.Math.Option.{some};
+ghost use Rattle.std.specs.Prelude.{◌≡◌, List, [], ◌∷◌, map, ℕ, Some};
 ghost use Rattle.refusals.specs.declared.Refusal.TheVariants.{LargeCell};
 ghost use Rattle.table.specs.Table.{max_rows, max_columns, max_arrays, max_denominator, max_expected, max_cells, entries};
 ghost use Rattle.table.specs.Check.{BelowZero, table_refusal};
@@ -58,7 +57,7 @@ pub fn bounds()
 // A cell below zero is 4, whatever the table, where none of 1 to 3 applies. And the literal cases are as stated: refusals 1 to 4 and each two of them at once,
 // the order of the entries, the rounding of one entry, and the largest entries.
 pub fn claims()
-    ensures below_zero { (r c d : ℕ) (g : List ℕ) → BelowZero r c d g → table_refusal r c d g ≡ some LargeCell }
+    ensures below_zero { (r c d : ℕ) (g : List ℕ) → BelowZero r c d g → table_refusal r c d g ≡ Some LargeCell }
     ensures checks { map checked cases ≡ map (λ x. x.number) cases }
     ensures entries { entries 2 3 (1 ∷ 2 ∷ 3 ∷ 40 ∷ 50 ∷ 60 ∷ []) ≡ 1 ∷ 2 ∷ 3 ∷ 40 ∷ 50 ∷ 60 ∷ 6 ∷ 150 ∷ 41 ∷ 52 ∷ 63 ∷ 156 ∷ [] }
     ensures rounded { map (λ x. rounded_of x.entry) rounded ≡ rounded }

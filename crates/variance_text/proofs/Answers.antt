@@ -1,8 +1,8 @@
 -- What is printed of a plan, by what opening it answers. Assumes nothing.
+use Rattle.std.specs.Prelude.{Some}
 use mathlib.Core.Path.{◌≡◌, refl, sym, ap, ◌∙◌}
 use mathlib.Core.Bool.{true, false}
 use mathlib.Core.List.{List, ◌++◌}
-use mathlib.Core.Option.{some}
 use Prim.Native.Nat.{ℕ, ◌≤◌}
 use lib.ListN.{length, take}
 use Rattle.refusals.specs.declared.Refusal.{Refusal}
@@ -35,11 +35,11 @@ module _ (k : ℕ) (b : List ℕ) where
   unfolding goes_on
   on_open h = rw h refl
 
-  text_refused : (x : Refusal) → open_refusal b ≡ some x → refused (number_of x) ≡ plan_text k b
+  text_refused : (x : Refusal) → open_refusal b ≡ Some x → refused (number_of x) ≡ plan_text k b
   unfolding plan_text
   text_refused x h = rw h refl
 
-  on_refused : (x : Refusal) → open_refusal b ≡ some x → false ≡ goes_on b
+  on_refused : (x : Refusal) → open_refusal b ≡ Some x → false ≡ goes_on b
   unfolding goes_on
   on_refused x h = rw h refl
 

@@ -1,7 +1,7 @@
 -- The line of a plan, part by part. Assumes nothing.
+use Rattle.std.specs.Prelude.{Option, Some, None}
 use mathlib.Core.Path.{◌≡◌, refl, sym, ◌∙◌}
 use mathlib.Core.List.{List, [], ◌∷◌, ◌++◌, append_assoc}
-use mathlib.Core.Option.{Option, some, none}
 use Prim.Native.Nat.{ℕ, ◌+◌, ◌≤◌}
 use native.Mathlib.Omega.{arith}
 use lib.IntN.{ℤ, pos, sub_ℕ}
@@ -129,5 +129,5 @@ unfolding plan_text numerators
 text_most n b = go (open_refusal b)
   where
     go : (o : Option Refusal) → length (refused_or (λ x. refused (number_of x)) (decimal n ++ rest_of_line (numerators (decode b))) o) ≤ max_line
-    go none = line_most n _ _ _
-    go (some x) = refusal_most (number_of x)
+    go None = line_most n _ _ _
+    go (Some x) = refusal_most (number_of x)

@@ -1,8 +1,8 @@
 -- The ways through the two calls. Assumes nothing.
+use Rattle.std.specs.Prelude.{Option, Some, None}
 use mathlib.Core.Path.{◌≡◌, refl, sym, ap, ◌∙◌}
 use mathlib.Core.Bool.{Bool, true, false, false≢true, not}
 use mathlib.Core.List.{List, [], ◌∷◌, ◌++◌}
-use mathlib.Core.Option.{Option, some, none}
 use Prim.Native.Nat.{ℕ, ◌*◌, ◌<◌, ◌≤◌}
 use lib.ListN.{length}
 use lib.Dec.{leb}
@@ -32,14 +32,14 @@ use Rattle.walk.specs.Clauses.{walk_check}
 
 -- 1 and 15, whatever else is tested after them
 module _ (r c : ℕ) {b : Bool} (e : b ≡ size_within r c) where
-  size_due : b ≡ false → (l : List Test) → due (size_test r c ∷ l) ≡ some Size
+  size_due : b ≡ false → (l : List Test) → due (size_test r c ∷ l) ≡ Some Size
   size_due h l = due_here (size_test r c) l (ap not (sym e ∙ h))
 
   module _ (h : b ≡ true) {s : Bool} (f : s ≡ walk_within r c) where
     size_passes : (l : List Test) → due (size_test r c ∷ l) ≡ due l
     size_passes l = due_next (size_test r c) l (ap not (sym e ∙ h))
 
-    large_due : s ≡ false → (l : List Test) → due (size_test r c ∷ walk_size_test r c ∷ l) ≡ some WalkSize
+    large_due : s ≡ false → (l : List Test) → due (size_test r c ∷ walk_size_test r c ∷ l) ≡ Some WalkSize
     large_due i l = size_passes (walk_size_test r c ∷ l) ∙ due_here (walk_size_test r c) l (ap not (sym f ∙ i))
 
     small_due : s ≡ true → (l : List Test) → due (size_test r c ∷ walk_size_test r c ∷ l) ≡ due (size_test r c ∷ l)
@@ -56,7 +56,7 @@ module _ (r c d : ℕ) (g : List ℕ) where
     unfolding walk_check
     bad_size h = ap (answered r c d) (sym (size_due r c e h (walk_size_test r c ∷ later)))
 
-    pub first_bad_size : b ≡ false → (room : ℕ) → first_refusal r c d g room ≡ some Size
+    pub first_bad_size : b ≡ false → (room : ℕ) → first_refusal r c d g room ≡ Some Size
     unfolding first_refusal
     first_bad_size h room = size_due r c e h (walk_size_test r c ∷ (later ++ (room_test r c room ∷ [])))
 
@@ -69,7 +69,7 @@ module _ (r c d : ℕ) (g : List ℕ) where
       unfolding walk_check check_of check_of_cells
       small_enough i q = q ∙ ap (answered r c d) (sym (small_due r c e h f i later))
 
-      pub first_too_large : s ≡ false → (room : ℕ) → first_refusal r c d g room ≡ some WalkSize
+      pub first_too_large : s ≡ false → (room : ℕ) → first_refusal r c d g room ≡ Some WalkSize
       unfolding first_refusal
       first_too_large i room = large_due r c e h f i (later ++ (room_test r c room ∷ []))
 
@@ -80,8 +80,8 @@ module _ (r c d : ℕ) (g : List ℕ) where
       first_rounds i {old} q = rw (small_due r c e h f i (later ++ (room_test r c (length old) ∷ []))) q
 
   -- where nothing is due, the table is accepted, and small
-  module _ (h : due (walk_tests r c d g) ≡ none) where
-    nothing_table : table_refusal r c d g ≡ none
+  module _ (h : due (walk_tests r c d g) ≡ None) where
+    nothing_table : table_refusal r c d g ≡ None
     unfolding table_refusal
     nothing_table =
         due_next (size_test r c) later (not_here (size_test r c) (walk_size_test r c ∷ later) h)
@@ -109,16 +109,16 @@ columns_decide r c h = simp (le-leb r 4 h)
 
 -- what the check's answer says
 module _ (r c d : ℕ) (g : List ℕ) {k : Checked} (e : k ≡ walk_check r c d g) where
-  not_taken : {x : Refusal} → k ≡ checked.Refused x → due (walk_tests r c d g) ≡ some x
+  not_taken : {x : Refusal} → k ≡ checked.Refused x → due (walk_tests r c d g) ≡ Some x
   unfolding walk_check
   not_taken {x} h = answered_refused r c d (due (walk_tests r c d g)) x (sym h ∙ e)
 
-  pub next_refused : (n : List ℕ) (room : ℕ) {x : Refusal} → k ≡ checked.Refused x → next_refusal r c d g n room ≡ some x
+  pub next_refused : (n : List ℕ) (room : ℕ) {x : Refusal} → k ≡ checked.Refused x → next_refusal r c d g n room ≡ Some x
   unfolding next_refusal
   next_refused n room {x} h = due_first (walk_tests r c d g) (array_tests r c d g n room) x (not_taken h)
 
   module _ {t : Table} (h : k ≡ checked.Accepted t) where
-    nothing : due (walk_tests r c d g) ≡ none
+    nothing : due (walk_tests r c d g) ≡ None
     unfolding walk_check
     nothing = answered_nothing r c d (due (walk_tests r c d g)) t (sym h ∙ e)
 
@@ -137,7 +137,7 @@ module _ (r c d : ℕ) (g : List ℕ) {k : Checked} (e : k ≡ walk_check r c d 
       tested : b ≡ is_rounding (two_ways r c) d g n
       tested = rw sizes at f
 
-      pub no_rounding : b ≡ false → (room : ℕ) → next_refusal r c d g n room ≡ some NotRounding
+      pub no_rounding : b ≡ false → (room : ℕ) → next_refusal r c d g n room ≡ Some NotRounding
       unfolding next_refusal due
       no_rounding l room = due_second (walk_tests r c d g) (array_tests r c d g n room) nothing ∙ simp (sym tested ∙ l)
 
@@ -146,13 +146,13 @@ module _ (r c d : ℕ) (g : List ℕ) {k : Checked} (e : k ≡ walk_check r c d 
         rounds_so = sym f ∙ l
 
         module _ (room : ℕ) where
-          pub next_short : room < t.rows * t.columns → next_refusal r c d g n room ≡ some Buffer
+          pub next_short : room < t.rows * t.columns → next_refusal r c d g n room ≡ Some Buffer
           unfolding next_refusal due
           next_short s =
               let m : room < r * c = rw sizes at s in
               due_second (walk_tests r c d g) (array_tests r c d g n room) nothing ∙ simp (sym tested ∙ l, lt-ltb room (r * c) m)
 
-          pub next_enough : t.rows * t.columns ≤ room → next_refusal r c d g n room ≡ none
+          pub next_enough : t.rows * t.columns ≤ room → next_refusal r c d g n room ≡ None
           unfolding next_refusal due
           next_enough s =
               let m : r * c ≤ room = rw sizes at s in
@@ -168,45 +168,45 @@ pub record Answered (r c d : ℕ) (g n old : List ℕ) (a : Step) (new : List �
   pub buffer : new ≡ next_left r c d g n old
 
 module _ (r c d : ℕ) (g n old : List ℕ) where
-  pub refused_so : {x : Refusal} → next_refusal r c d g n (length old) ≡ some x → Answered r c d g n old (Refused x) old
+  pub refused_so : {x : Refusal} → next_refusal r c d g n (length old) ≡ Some x → Answered r c d g n old (Refused x) old
   unfolding next_answer next_left after
   refused_so h = record { answer = rw h; buffer = rw h }
 
-  module _ (h : next_refusal r c d g n (length old) ≡ none) {b : Bool} {new : List ℕ} (f : Found (next_rounding r c d g n) old b new) where
+  module _ (h : next_refusal r c d g n (length old) ≡ None) {b : Bool} {new : List ℕ} (f : Found (next_rounding r c d g n) old b new) where
     pub next_so : b ≡ true → Answered r c d g n old Next new
     unfolding next_answer next_left after
     next_so e = go (next_rounding r c d g n) refl f
       where
         go : (o : Option (List ℕ)) → next_rounding r c d g n ≡ o → Found o old b new → Answered r c d g n old Next new
-        go (some k) q s = record { answer = rw (h, q); buffer = rw (h, q) s.left }
-        go none q s = absurd (false≢true (sym s.answer ∙ e))
+        go (Some k) q s = record { answer = rw (h, q); buffer = rw (h, q) s.left }
+        go None q s = absurd (false≢true (sym s.answer ∙ e))
 
     pub last_so : b ≡ false → Answered r c d g n old Last new
     unfolding next_answer next_left after
     last_so e = go (next_rounding r c d g n) refl f
       where
         go : (o : Option (List ℕ)) → next_rounding r c d g n ≡ o → Found o old b new → Answered r c d g n old Last new
-        go (some k) q s = absurd (false≢true (sym e ∙ s.answer))
-        go none q s = record { answer = rw (h, q); buffer = rw (h, q) s.left }
+        go (Some k) q s = absurd (false≢true (sym e ∙ s.answer))
+        go None q s = record { answer = rw (h, q); buffer = rw (h, q) s.left }
 
 -- an accepted table that is small, a controlled rounding of it and a buffer with room: nothing is due
-module _ (r c d : ℕ) (g : List ℕ) (h : table_refusal r c d g ≡ none) (hr : r ≤ 4) (hc : c ≤ 4) where
+module _ (r c d : ℕ) (g : List ℕ) (h : table_refusal r c d g ≡ None) (hr : r ≤ 4) (hc : c ≤ 4) where
   size_fits : (size_test r c).applies ≡ false
   unfolding table_refusal
   size_fits = not_here (size_test r c) (later r c d g) h
 
-  nothing_due : due (walk_tests r c d g) ≡ none
+  nothing_due : due (walk_tests r c d g) ≡ None
   unfolding table_refusal
   nothing_due =
       due_next (size_test r c) (walk_size_test r c ∷ later r c d g) size_fits
       ∙ due_next (walk_size_test r c) (later r c d g) (simp (le-leb r 4 hr, le-leb c 4 hc))
       ∙ not_later (size_test r c) (later r c d g) h
 
-  pub nothing_first : (room : ℕ) → r * c ≤ room → first_refusal r c d g room ≡ none
+  pub nothing_first : (room : ℕ) → r * c ≤ room → first_refusal r c d g room ≡ None
   unfolding first_refusal due
   nothing_first room l = due_second (walk_tests r c d g) (room_test r c room ∷ []) nothing_due ∙ simp (le-ltb room (r * c) l)
 
-  pub nothing_next : (n : List ℕ) → is_rounding (two_ways r c) d g n ≡ true → (room : ℕ) → r * c ≤ room → next_refusal r c d g n room ≡ none
+  pub nothing_next : (n : List ℕ) → is_rounding (two_ways r c) d g n ≡ true → (room : ℕ) → r * c ≤ room → next_refusal r c d g n room ≡ None
   unfolding next_refusal due
   nothing_next n i room l =
       due_second (walk_tests r c d g) (array_tests r c d g n room) nothing_due
@@ -214,7 +214,7 @@ module _ (r c d : ℕ) (g : List ℕ) (h : table_refusal r c d g ≡ none) (hr :
 
 -- a cell below zero in a small table is 4, whatever else is lent
 module _ (r c d : ℕ) (g : List ℕ) (hr : r ≤ 4) (hc : c ≤ 4) (z : BelowZero r c d g) where
-  four : due (walk_tests r c d g) ≡ some LargeCell
+  four : due (walk_tests r c d g) ≡ Some LargeCell
   unfolding table_refusal
   four =
       let size = not_here (size_test r c) (denominator_test d ∷ count_test (length g) (r * c) ∷ []) z.sizes in
@@ -222,11 +222,11 @@ module _ (r c d : ℕ) (g : List ℕ) (hr : r ≤ 4) (hc : c ≤ 4) (z : BelowZe
       ∙ due_next (walk_size_test r c) (later r c d g) (simp (le-leb r 4 hr, le-leb c 4 hc))
       ∙ sym (due_next (size_test r c) (later r c d g) size) ∙ below_zero r c d g z
 
-  pub first_below_zero : (room : ℕ) → first_refusal r c d g room ≡ some LargeCell
+  pub first_below_zero : (room : ℕ) → first_refusal r c d g room ≡ Some LargeCell
   unfolding first_refusal
   first_below_zero room = due_first (walk_tests r c d g) (room_test r c room ∷ []) LargeCell four
 
-  pub next_below_zero : (n : List ℕ) (room : ℕ) → next_refusal r c d g n room ≡ some LargeCell
+  pub next_below_zero : (n : List ℕ) (room : ℕ) → next_refusal r c d g n room ≡ Some LargeCell
   unfolding next_refusal
   next_below_zero n room =
       due_first (walk_tests r c d g) (array_tests r c d g n room) LargeCell four

@@ -1,6 +1,5 @@
 -- The two calls of a walk (specification, "The walk" and "Refusals"). Assumes nothing.
-use Rattle.std.specs.Prelude.{Bool, not, ◌&&◌, List, [], ◌∷◌, ◌++◌, ℕ, ◌*◌, length, leb, ltb}
-use Rattle.std.proofs.Math.Option.{Option, some, none}
+use Rattle.std.specs.Prelude.{Bool, not, ◌&&◌, List, [], ◌∷◌, ◌++◌, ℕ, ◌*◌, length, leb, ltb, Option, Some, None}
 use Rattle.refusals.specs.declared.Refusal.{Refusal}
 use Rattle.refusals.specs.declared.Refusal.TheVariants.{LargeCell, Buffer, WalkSize, NotRounding}
 use Rattle.refusals.specs.Numbers.{number_of}
@@ -50,8 +49,8 @@ next_refusal r c d g n room = due (next_tests r c d g n room)
 
 -- its answer: what is due; and where nothing is, whether an array follows
 abbrev pub step_of : Option (List ℕ) → Step
-step_of (some k) = Next
-step_of none = Last
+step_of (Some k) = Next
+step_of None = Last
 
 unfoldable pub next_answer : ℕ → ℕ → ℕ → List ℕ → List ℕ → ℕ → Step
 next_answer r c d g n room = refused_or Refused (step_of (next_rounding r c d g n)) (next_refusal r c d g n room)
