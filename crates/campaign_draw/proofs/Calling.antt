@@ -1,5 +1,5 @@
 -- What a campaign draw answers and writes, by the tests on its way. Assumes nothing.
-use Rattle.std.specs.Prelude.{None}
+use Rattle.std.specs.Prelude.{None, Result, Ok, Err, ⊤}
 use mathlib.Core.Path.{◌≡◌, refl, sym, ap, ◌∙◌}
 use mathlib.Core.Bool.{Bool, true, false, not}
 use mathlib.Core.List.{List, [], ◌∷◌}
@@ -17,15 +17,11 @@ use Rattle.base.specs.Clauses.{Filled}
 use Rattle.base.proofs.Lists.{tabulate_ext}
 use Rattle.base.proofs.Filling.{front_more}
 use Rattle.base.proofs.Buffers.{written_at, written_length}
-use Rattle.refusals.specs.declared.Answer.{Answer}
-use Rattle.refusals.specs.declared.Answer.TheVariants.{Done, Refused}
 use Rattle.refusals.specs.declared.Refusal.{Refusal}
 use Rattle.refusals.specs.declared.Refusal.TheVariants.{Buffer, Number, Record, Taken, Rounds}
 use Rattle.refusals.specs.Due.{refuse, due, after, Answers}
 use Rattle.refusals.proofs.Dues.{due_first, due_second, not_here, not_later, refused_so, accepted_so}
 use Rattle.form.specs.declared.Sizes.{Sizes}
-use Rattle.opening.specs.declared.Opened.{Opened}
-use Rattle.opening.specs.declared.Opened.TheVariants as opened
 use Rattle.weighted_arrays.specs.Plan.{cell_count}
 use Rattle.form.specs.Form.{sizes_of, decode}
 use Rattle.opening.specs.Open.{Opens}
@@ -64,57 +60,57 @@ module _ {counts old now : List ℕ} {i n x : ℕ} (p : Filled (sum_at counts ol
 
 -- the end of a round, and a round that goes on
 module _ {d n rounds : ℕ} {bits : List ℕ} where
-  pub round_going : (n ≡ d → ⊥) → Closes d n rounds bits (record { answer = Done; taken = n; rounds = rounds }) bits
+  pub round_going : (n ≡ d → ⊥) → Closes d n rounds bits (record { answer = Ok tt; taken = n; rounds = rounds }) bits
   unfolding closed
   round_going h = record { answer = refl; left = λ tally. rw (ne_eqb n d h) }
 
   pub round_closed : n ≡ d → {bits' : List ℕ} → bits' ≡ written (replicate (bit_bytes d) 0) bits
-      → Closes d n rounds bits (record { answer = Done; taken = 0; rounds = rounds + 1 }) bits'
+      → Closes d n rounds bits (record { answer = Ok tt; taken = 0; rounds = rounds + 1 }) bits'
   unfolding closed
   round_closed h e = record { answer = refl; left = λ tally. rw (eq-eqb n d h, e) }
 
 -- the ways of a campaign draw to its answer, once its plan is opened for its record
-module _ (b bits tally : List ℕ) {o : Opened} (is : o ≡ sizes_or b (start_refusal b (record_of 0 0 bits tally))) (n rounds d room : ℕ) where
+module _ (b bits tally : List ℕ) {o : Result Sizes Refusal} (is : o ≡ sizes_or b (start_refusal b (record_of 0 0 bits tally))) (n rounds d room : ℕ) where
   abbrev given : CampaignRecord
   given = record_of n rounds bits tally
 
-  pub draw_refused : {x : Refusal} → o ≡ opened.Refused x → opened.Refused x ≡ sizes_or b (campaign_refusal b d given room)
+  pub draw_refused : {x : Refusal} → o ≡ Err x → Err x ≡ sizes_or b (campaign_refusal b d given room)
   unfolding start_refusal campaign_refusal
   draw_refused {x} e = says_refused b (due_first (start_tests b given) _ x (start_refused b bits tally is n rounds e))
 
-  module _ {t : Sizes} (e : o ≡ opened.Plan t) where
+  module _ {t : Sizes} (e : o ≡ Ok t) where
     draw_by : campaign_refusal b d given room
         ≡ due (refuse Buffer (ltb room (t.rows * t.columns)) ∷ refuse Number (leb t.denominator d)
         ∷ refuse Record (not (fits (decode b) given)) ∷ refuse Rounds (leb max_rounds rounds) ∷ refuse Taken (not (eqb (bit_of bits d) 0)) ∷ [])
     unfolding start_refusal campaign_refusal decode
     draw_by = rw (start_sizes b bits tally is e) (due_second (start_tests b given) _ (start_none b bits tally is e n rounds))
 
-    pub short_counts : room < t.rows * t.columns → opened.Refused Buffer ≡ sizes_or b (campaign_refusal b d given room)
+    pub short_counts : room < t.rows * t.columns → Err Buffer ≡ sizes_or b (campaign_refusal b d given room)
     unfolding due
     short_counts h = says_refused b (draw_by ∙ simp (lt-ltb _ _ h))
 
     module _ (h : t.rows * t.columns ≤ room) where
-      pub number_above : t.denominator ≤ d → opened.Refused Number ≡ sizes_or b (campaign_refusal b d given room)
+      pub number_above : t.denominator ≤ d → Err Number ≡ sizes_or b (campaign_refusal b d given room)
       unfolding due
       number_above l = says_refused b (draw_by ∙ simp (le-ltb _ _ h, le-leb _ _ l))
 
       module _ (l : d < t.denominator) (x : Bool) (xe : x ≡ fits (decode b) given) where
-        pub not_fitting : not x ≡ true → opened.Refused Record ≡ sizes_or b (campaign_refusal b d given room)
+        pub not_fitting : not x ≡ true → Err Record ≡ sizes_or b (campaign_refusal b d given room)
         unfolding due
         not_fitting q = says_refused b (draw_by ∙ simp (le-ltb _ _ h, lt-leb _ _ l, sym xe ∙ not-true x q))
 
         module _ (q : not x ≡ false) where
-          pub all_done : max_rounds ≤ rounds → opened.Refused Rounds ≡ sizes_or b (campaign_refusal b d given room)
+          pub all_done : max_rounds ≤ rounds → Err Rounds ≡ sizes_or b (campaign_refusal b d given room)
           unfolding due
           all_done m = says_refused b (draw_by ∙ simp (le-ltb _ _ h, lt-leb _ _ l, sym xe ∙ not-false x q, le-leb _ _ m))
 
           module _ (m : rounds < max_rounds) (y : ℕ) (ye : y ≡ bit_of bits d) where
-            pub is_taken : (y ≡ 0 → ⊥) → opened.Refused Taken ≡ sizes_or b (campaign_refusal b d given room)
+            pub is_taken : (y ≡ 0 → ⊥) → Err Taken ≡ sizes_or b (campaign_refusal b d given room)
             unfolding due
             is_taken z =
                 says_refused b (draw_by ∙ simp (le-ltb _ _ h, lt-leb _ _ l, sym xe ∙ not-false x q, lt-leb _ _ m, ne_eqb _ 0 (λ r. z (ye ∙ r))))
 
-            pub is_accepted : y ≡ 0 → opened.Plan t ≡ sizes_or b (campaign_refusal b d given room)
+            pub is_accepted : y ≡ 0 → Ok t ≡ sizes_or b (campaign_refusal b d given room)
             unfolding due
             is_accepted z =
                 says_plan b
@@ -122,20 +118,20 @@ module _ (b bits tally : List ℕ) {o : Opened} (is : o ≡ sizes_or b (start_re
                 (start_sizes b bits tally is e)
 
 -- a campaign draw, by what is due of it
-module _ (b : List ℕ) (s : CampaignRecord) (d room : ℕ) {o : Opened} (is : o ≡ sizes_or b (campaign_refusal b d s room)) where
-  draw_as : (counts : List ℕ) {counts' : List ℕ} {r : Answer} {s' : CampaignRecord} → length counts ≡ room
+module _ (b : List ℕ) (s : CampaignRecord) (d room : ℕ) {o : Result Sizes Refusal} (is : o ≡ sizes_or b (campaign_refusal b d s room)) where
+  draw_as : (counts : List ℕ) {counts' : List ℕ} {r : Result ⊤ Refusal} {s' : CampaignRecord} → length counts ≡ room
       → Answers (campaign_refusal b d s room) (closed (decode b).denominator (taking (decode b) d s)) s r s'
       → counts' ≡ after (campaign_refusal b d s room) (written (drawn_array b d) counts) counts → Draws (λ a. a) (made b s (ask d counts)) r s' counts'
   unfolding made
   draw_as counts m a e = rw m (record { answer = a.answer; left = a.left; result = e })
 
-  pub draw_keeps : (counts : List ℕ) → length counts ≡ room → {x : Refusal} → o ≡ opened.Refused x
-      → Draws (λ a. a) (made b s (ask d counts)) (Refused x) s counts
+  pub draw_keeps : (counts : List ℕ) → length counts ≡ room → {x : Refusal} → o ≡ Err x
+      → Draws (λ a. a) (made b s (ask d counts)) (Err x) s counts
   unfolding after
   draw_keeps counts m e = let k = told_refused b _ (sym is ∙ e) in draw_as counts m (refused_so k) (rw k)
 
   -- what an accepted draw has passed
-  module _ {t : Sizes} (e : o ≡ opened.Plan t) where
+  module _ {t : Sizes} (e : o ≡ Ok t) where
     none_due : campaign_refusal b d s room ≡ None
     none_due = (told_plan b _ (sym is ∙ e)).0
 

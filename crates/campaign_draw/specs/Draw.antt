@@ -1,9 +1,8 @@
 -- A campaign draw: when it is refused, what it answers and what it leaves (specification, "Campaign record" and "Refusals"). The code is equated with this, and
 -- a run is made of draws after a start. Assumes nothing.
-use Rattle.std.specs.Prelude.{◌≡◌, cond, not, List, [], ◌∷◌, ◌++◌, ℕ, ◌+◌, ◌/◌, ◌%◌, ◌^◌, length, get_or, set, replicate, leb, ltb, eqb, Option}
+use Rattle.std.specs.Prelude.{◌≡◌, cond, not, List, [], ◌∷◌, ◌++◌, ℕ, ◌+◌, ◌/◌, ◌%◌, ◌^◌, length, get_or, set, replicate, leb, ltb, eqb, Option, Result, ⊤}
 use Rattle.base.specs.Lists.{tabulate}
 use Rattle.base.specs.Buffers.{written}
-use Rattle.refusals.specs.declared.Answer.{Answer}
 use Rattle.refusals.specs.declared.Refusal.{Refusal}
 use Rattle.refusals.specs.declared.Refusal.TheVariants.{Buffer, Number, Record, Taken, Rounds}
 use Rattle.refusals.specs.Due.{Test, refuse, due, answer_of, after}
@@ -57,7 +56,7 @@ ask number buffer = record { number = number; buffer = buffer }
 pub record Made : Type 0 where
   pub asked : Asked
   pub given : CampaignRecord
-  pub answer : Answer
+  pub answer : Result ⊤ Refusal
   pub left : CampaignRecord
   pub result : List ℕ
 
@@ -73,7 +72,7 @@ made b s x =
     }
 
 -- what the code is held to: its answer, as it stands or as its number, and what it leaves are the defined ones
-pub record Draws {A : Type 0} (told : Answer → A) (t : Made) (r : A) (s : CampaignRecord) (counts : List ℕ) : Type 0 where
+pub record Draws {A : Type 0} (told : Result ⊤ Refusal → A) (t : Made) (r : A) (s : CampaignRecord) (counts : List ℕ) : Type 0 where
   pub answer : r ≡ told t.answer
   pub left : s ≡ t.left
   pub result : counts ≡ t.result

@@ -1,8 +1,7 @@
 -- A campaign start: when it is refused, what it answers and what it leaves (specification, "Campaign record" and "Refusals"). The code is equated with this,
 -- and a run begins with it. Assumes nothing.
-use Rattle.std.specs.Prelude.{◌≡◌, not, List, [], ◌∷◌, ◌++◌, ℕ, replicate, Option}
+use Rattle.std.specs.Prelude.{◌≡◌, not, List, [], ◌∷◌, ◌++◌, ℕ, replicate, Option, Result, ⊤}
 use Rattle.base.specs.Buffers.{written}
-use Rattle.refusals.specs.declared.Answer.{Answer}
 use Rattle.refusals.specs.declared.Refusal.{Refusal}
 use Rattle.refusals.specs.declared.Refusal.TheVariants.{Buffer}
 use Rattle.refusals.specs.Due.{Test, refuse, due, answer_of, after}
@@ -30,7 +29,7 @@ cleared p s = record {
 
 -- a start that was made: its answer, and the record as it left it
 pub record Started : Type 0 where
-  pub answer : Answer
+  pub answer : Result ⊤ Refusal
   pub left : CampaignRecord
 
 unfoldable pub started : List ℕ → CampaignRecord → Started
@@ -39,6 +38,6 @@ started b s =
     record { answer = answer_of o; left = after o (cleared (decode b) s) s }
 
 -- what the code is held to: its answer, as it stands or as its number, and what it leaves are the defined ones
-pub record Starts {A : Type 0} (told : Answer → A) (t : Started) (r : A) (s : CampaignRecord) : Type 0 where
+pub record Starts {A : Type 0} (told : Result ⊤ Refusal → A) (t : Started) (r : A) (s : CampaignRecord) : Type 0 where
   pub answer : r ≡ told t.answer
   pub left : s ≡ t.left

@@ -1,5 +1,5 @@
 -- The ways through the call. Assumes nothing.
-use Rattle.std.specs.Prelude.{Some, None}
+use Rattle.std.specs.Prelude.{Some, None, Result, Ok, Err}
 use mathlib.Core.Path.{◌≡◌, sym, ◌∙◌}
 use mathlib.Core.List.{List, [], ◌∷◌}
 use Prim.Native.Nat.{ℕ, ◌*◌, ◌≤◌, ◌<◌}
@@ -12,8 +12,6 @@ use Rattle.refusals.specs.Due.{Test, refuse, due}
 use Rattle.refusals.proofs.Dues.{due_first, due_second}
 use Rattle.table.specs.Clauses.{check_of_cells}
 use Rattle.table.specs.declared.Table.{Table}
-use Rattle.table.specs.declared.Checked.{Checked}
-use Rattle.table.specs.declared.Checked.TheVariants.{Accepted, Refused}
 use Rattle.table.proofs.Checks.{answered_refused, answered_nothing, answered_sizes}
 use Rattle.base.specs.Buffers.{written}
 use Rattle.corrections.specs.Rounding.{first_rounding}
@@ -23,15 +21,15 @@ use Rattle.correction_check.proofs.Accepted.{accepted_sizes}
 use Rattle.corrections.specs.Call.{round_refusal}
 
 -- the ways through the call
-module _ (r c d : ℕ) (g : List ℤ) (room : ℕ) {k : Checked} (e : k ≡ check_of r c d g) where
+module _ (r c d : ℕ) (g : List ℤ) (room : ℕ) {k : Result Table Refusal} (e : k ≡ check_of r c d g) where
   buffer : List Test
   buffer = refuse Buffer (ltb room (r * c)) ∷ []
 
-  pub refused : {x : Refusal} → k ≡ Refused x → round_refusal r c d g room ≡ Some x
+  pub refused : {x : Refusal} → k ≡ Err x → round_refusal r c d g room ≡ Some x
   unfolding round_refusal check_of check_of_cells
   refused {x} h = due_first (table_tests r c d g) _ x (answered_refused r c d (due (table_tests r c d g)) x (sym h ∙ e))
 
-  module _ {t : Table} (h : k ≡ Accepted t) where
+  module _ {t : Table} (h : k ≡ Ok t) where
     nothing : table_refusal r c d g ≡ None
     unfolding check_of check_of_cells table_refusal
     nothing = answered_nothing r c d (table_refusal r c d g) t (sym h ∙ e)

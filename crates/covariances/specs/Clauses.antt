@@ -1,5 +1,5 @@
 -- Covariances as the code holds them, lifted, so that none is below zero; and what the functions inside require and promise. Assumes nothing.
-use Rattle.std.specs.Prelude.{◌≡◌, ℕ, ◌+◌, ◌-◌, ◌*◌, ◌≤◌, ◌<◌, min, max, length, get_or}
+use Rattle.std.specs.Prelude.{◌≡◌, ℕ, ◌+◌, ◌-◌, ◌*◌, ◌≤◌, ◌<◌, min, max, length, get_or, Ok}
 use mathlib.Core.List.{List, foldl}
 use Rattle.std.proofs.Math.IntN.{sub_ℕ}
 use Rattle.base.specs.Lists.{tabulate, join_to}
@@ -9,7 +9,6 @@ use Rattle.weighted_arrays.specs.Clauses.{SumsTo}
 use Rattle.form.specs.declared.Sizes.{Sizes}
 use Rattle.form.specs.Form.{decode}
 use Rattle.reading.specs.Clauses.{Sized}
-use Rattle.opening.specs.declared.Opened.TheVariants as opened
 use Rattle.opening.specs.Open.{open_answer}
 use Rattle.covariances.specs.declared.Extremes.{Extremes}
 use Rattle.covariances.specs.Covariance.{at, weighted_products, lift, covariances, smallest, largest}
@@ -38,7 +37,7 @@ factors l a j = (array_at l j).weight * get_or (array_at l j).counts a 0
 
 -- an opened plan with the counts of its arrays, a place, and sums that hold nothing yet
 pub record RowReady (s : Sizes) (b counts : List ℕ) (a : ℕ) (sums : List ℕ) : Type 0 where
-  pub is_open : open_answer b ≡ opened.Plan s
+  pub is_open : open_answer b ≡ Ok s
   pub kept : Kept (decode b).arrays (cell_count (decode b)) (length (decode b).arrays) counts
   pub there : a < cell_count (decode b)
   pub empty : SumsTo (factors (decode b).arrays a) (decode b).arrays a 0 sums
@@ -81,7 +80,7 @@ lifted_pairs p n = join_to n (λ a. tabulate a (lifted_pair p a))
 
 -- an opened plan with its cells; and with the counts of its arrays
 pub record CellsReady (s : Sizes) (b cells : List ℕ) : Type 0 where
-  pub is_open : open_answer b ≡ opened.Plan s
+  pub is_open : open_answer b ≡ Ok s
   pub cells_are : cells ≡ (decode b).cells
 
 pub record RowsReady (s : Sizes) (b cells counts : List ℕ) : Type 0 where

@@ -1,5 +1,5 @@
 -- Two tables that are pooled, and the pool then planned. Assumes nothing.
-use Rattle.std.specs.Prelude.{None}
+use Rattle.std.specs.Prelude.{None, Result, ⊤}
 use mathlib.Core.Path.{◌≡◌, refl, ap, ◌∙◌}
 use mathlib.Core.Bool.{◌||◌}
 use mathlib.Core.List.{List, [], ◌∷◌}
@@ -9,7 +9,6 @@ use lib.ListN.{length}
 use lib.Dec.{ltb}
 use borrow.Author.Tests.{le-ltb}
 use Rattle.base.proofs.Buffers.{written_at, written_front}
-use Rattle.refusals.specs.declared.Answer.{Answer}
 use Rattle.refusals.specs.declared.Refusal.TheVariants.{Buffer}
 use Rattle.refusals.specs.Due.{refuse, due, answer_of, after, Answers}
 use Rattle.refusals.proofs.Dues.{due_second}
@@ -21,8 +20,9 @@ use Rattle.pool.specs.Pool.{pooled_cells, pooling_tests, pooling_refusal, pool_r
 use Rattle.pool.specs.Promises.{Pools}
 use Rattle.pool.proofs.Pooling as pool
 use Rattle.demands.specs.Pools.{multiple_in, cells_in, ServedPool}
+use Rattle.refusals.specs.declared.Refusal.{Refusal}
 
-module _ (r c d : ℕ) (g : List ℕ) (e : ℕ) (h : List ℕ) (old new : Lent) (a : Answer) (free : pooling_refusal r c d g e h ≡ None)
+module _ (r c d : ℕ) (g : List ℕ) (e : ℕ) (h : List ℕ) (old new : Lent) (a : Result ⊤ Refusal) (free : pooling_refusal r c d g e h ≡ None)
     (number : 1 ≤ length old.denominator) (room : r * c ≤ length old.cells)
     (answers : Answers (pool_refusal r c d g e h (length old.denominator) (length old.cells)) (pooled_into d g e h old) old a new) where
   none_due : pool_refusal r c d g e h (length old.denominator) (length old.cells) ≡ None

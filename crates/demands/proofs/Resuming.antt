@@ -1,4 +1,5 @@
 -- A record that fits is that of a run: the numbers that it says were drawn, drawn after a start, leave it. Assumes nothing.
+use Rattle.std.specs.Prelude.{Ok}
 use mathlib.Core.Path.{◌≡◌, refl, sym, ap, ap₂, ◌∙◌, subst}
 use mathlib.Core.Bool.{Bool, true, false, cond, ◌||◌, or-false, or-true}
 use mathlib.Core.List.Memᴰ
@@ -16,7 +17,6 @@ use Rattle.base.specs.Buffers.{written}
 use Rattle.base.proofs.Sums.{sum_ext, sum_beyond, sum_same, sum_term}
 use Rattle.base.proofs.Tests.{by_test}
 use Rattle.base.proofs.Buffers.{written_at, written_beyond}
-use Rattle.refusals.specs.declared.Answer.TheVariants.{Done}
 use Rattle.weighted_arrays.specs.Plan.{Plan, cell_count}
 use Rattle.form.specs.Form.{decode}
 use Rattle.opening.specs.Open.{Opens}
@@ -109,7 +109,7 @@ module _ (b : List ℕ) (o : Opens b) (s : CampaignRecord) (room : room_for (dec
   -- used that pass a test, and none from n on.
   record Stands (h : List Made) (r : Rounds) (e : CampaignRecord) (k n : ℕ) (test : ℕ → Bool) : Type 0 where
     run : RunHolds p s h r e
-    all_done : (t : Made) → Member t h → t.answer ≡ Done
+    all_done : (t : Made) → Member t h → t.answer ≡ Ok tt
     rounds : length r.completed ≡ k
     below : (d : ℕ) → d < n → used r.current d ≡ test d
     beyond : (d : ℕ) → n ≤ d → used r.current d ≡ false
@@ -135,13 +135,13 @@ module _ (b : List ℕ) (o : Opens b) (s : CampaignRecord) (room : room_for (dec
     new : used r.current n ≡ false
     new = at.beyond n (omega arith)
 
-    done : t.answer ≡ Done
+    done : t.answer ≡ Ok tt
     done = is_done_lem b o s room at.run next (le-ltb (length next.buffer) (cell_count p) (omega (arith, length-replicate {A = ℕ} (cell_count p) 0)))
         (lt-leb p.denominator n there)
         (lt-leb max_rounds (length r.completed) (omega (arith, at.rounds))) new
 
-    all_accepted : (u : Made) → Member u (h ++ (t ∷ [])) → u.answer ≡ Done
-    all_accepted = one_more_lem (λ (u : Made). u.answer ≡ Done) h t at.all_done done
+    all_accepted : (u : Made) → Member u (h ++ (t ∷ [])) → u.answer ≡ Ok tt
+    all_accepted = one_more_lem (λ (u : Made). u.answer ≡ Ok tt) h t at.all_done done
 
     more : accepted (r.current ++ (t ∷ [])) ≡ accepted r.current + 1
     more = over_accepted_lem r.current t done (λ u. 1)

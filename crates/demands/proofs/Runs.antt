@@ -1,5 +1,5 @@
 -- A run: a start and any list of draws, with its rounds. Assumes nothing.
-use Rattle.std.specs.Prelude.{Option, Some, None}
+use Rattle.std.specs.Prelude.{Option, Some, None, Ok, Err}
 use mathlib.Core.Path.{◌≡◌, refl, sym, ap, ap₂, ◌∙◌, subst}
 use mathlib.Core.Bool.{Bool, true, false, not, cond}
 use mathlib.Core.List.{List, [], ◌∷◌, ◌++◌, map, append_assoc, append-nil}
@@ -10,7 +10,6 @@ use lib.ListN.{length, take}
 use borrow.Author.Tests.{leb-false}
 use Rattle.base.specs.Buffers.{written}
 use Rattle.base.proofs.Buffers.{written_front}
-use Rattle.refusals.specs.declared.Answer.TheVariants.{Done, Refused}
 use Rattle.refusals.specs.declared.Refusal.{Refusal}
 use Rattle.refusals.specs.declared.Refusal.TheVariants.{Buffer, Number, Record, Taken}
 use Rattle.refusals.specs.declared.Refusal.TheVariants as refusal
@@ -70,12 +69,12 @@ set_if true = refl
 set_if false = refl
 
 -- an answer tells what was due
-done_none : (o : Option Refusal) → answer_of o ≡ Done → o ≡ None
+done_none : (o : Option Refusal) → answer_of o ≡ Ok tt → o ≡ None
 unfolding answer_of
 done_none None e = refl
 done_none (Some x) e = absurd (let z : ◌≡◌ {A = ℕ} 0 1 = cc in omega arith)
 
-refused_some : (o : Option Refusal) {x : Refusal} → answer_of o ≡ Refused x → o ≡ Some x
+refused_some : (o : Option Refusal) {x : Refusal} → answer_of o ≡ Err x → o ≡ Some x
 unfolding answer_of
 refused_some None e = absurd (let z : ◌≡◌ {A = ℕ} 0 1 = cc in omega arith)
 refused_some (Some y) e = cc
@@ -101,7 +100,7 @@ module _ (b : List ℕ) (o : Opens b) (s₀ : CampaignRecord) (room : room_for (
   unfolding start_refusal open_refusal due
   start_due s h = due_second (open_tests b) (refuse Buffer (not (room_for (decode b) s)) ∷ []) o ∙ simp h
 
-  pub start_done : (started b s₀).answer ≡ Done
+  pub start_done : (started b s₀).answer ≡ Ok tt
   unfolding started answer_of
   start_done = ap answer_of (start_due s₀ room)
 
@@ -153,14 +152,14 @@ module _ (b : List ℕ) (o : Opens b) (s₀ : CampaignRecord) (room : room_for (
 
     -- a draw that meets none of the four is accepted
     pub is_done_lem : ltb (length x.buffer) (cell_count (decode b)) ≡ false → leb (decode b).denominator x.number ≡ false
-        → leb max_rounds (length r.completed) ≡ false → used r.current x.number ≡ false → (made b s x).answer ≡ Done
+        → leb max_rounds (length r.completed) ≡ false → used r.current x.number ≡ false → (made b s x).answer ≡ Ok tt
     unfolding made answer_of due
     is_done_lem long below going new =
         let nothing : due (run_tests (decode b) r x) ≡ None = simp (long, below, going, new) in
         ap answer_of (due_by ∙ nothing)
 
     -- and what it leaves of the record
-    pub left_accepted : (made b s x).answer ≡ Done → (made b s x).left ≡ closed (decode b).denominator (taking (decode b) x.number s)
+    pub left_accepted : (made b s x).answer ≡ Ok tt → (made b s x).left ≡ closed (decode b).denominator (taking (decode b) x.number s)
     unfolding made after
     left_accepted e = left_by (done_none _ e)
 

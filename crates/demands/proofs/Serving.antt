@@ -1,5 +1,5 @@
 -- The plan of every accepted table opens, and every list of draws on it is held to the claim. Assumes nothing.
-use Rattle.std.specs.Prelude.{None}
+use Rattle.std.specs.Prelude.{None, Result, Ok}
 use mathlib.Core.Path.{◌≡◌, refl, ap, ◌∙◌}
 use mathlib.Core.List.{List, [], ◌∷◌}
 use Prim.Native.Nat.{ℕ, ◌≤◌}
@@ -11,21 +11,20 @@ use Rattle.refusals.specs.declared.Refusal.TheVariants.{Buffer}
 use Rattle.refusals.specs.Due.{refuse, due, after}
 use Rattle.refusals.proofs.Dues.{due_second}
 use Rattle.table.specs.Check.{table_tests, table_refusal}
-use Rattle.plan.specs.declared.Planned.{Planned}
-use Rattle.plan.specs.declared.Planned.TheVariants.{Length}
 use Rattle.plan.specs.Call.{plan_bytes, plan_refusal, plan_answer, PlanAnswers}
 use Rattle.plan.proofs.Planning.{promised}
 use Rattle.table.proofs.Checks.{passed_all}
 use Rattle.demands.specs.Plans.{Served}
 use Rattle.demands.proofs.Campaigns.{claim}
+use Rattle.refusals.specs.declared.Refusal.{Refusal}
 
-module _ (r c d : ℕ) (g old new : List ℕ) (p : Planned) (t : table_refusal r c d g ≡ None) (room : length (plan_bytes r c d g) ≤ length old)
+module _ (r c d : ℕ) (g old new : List ℕ) (p : Result ℕ Refusal) (t : table_refusal r c d g ≡ None) (room : length (plan_bytes r c d g) ≤ length old)
     (a : PlanAnswers r c d g old p new) where
   none_due : plan_refusal r c d g (length old) ≡ None
   unfolding plan_refusal table_refusal due
   none_due = due_second (table_tests r c d g) (refuse Buffer (ltb (length old) (length (plan_bytes r c d g))) ∷ []) t ∙ simp (le-ltb _ _ room)
 
-  answered : p ≡ Length (length (plan_bytes r c d g))
+  answered : p ≡ Ok (length (plan_bytes r c d g))
   unfolding plan_answer
   answered = a.answer ∙ rw none_due
 

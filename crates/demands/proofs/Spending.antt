@@ -1,4 +1,5 @@
 -- What one more draw adds to the used numbers and to what was drawn. Assumes nothing.
+use Rattle.std.specs.Prelude.{Result, Ok, Err, ⊤}
 use mathlib.Core.Path.{◌≡◌, refl, sym, ap, ap₂, ◌∙◌}
 use mathlib.Core.Bool.{Bool, false, cond, ◌&&◌, ◌||◌, or-false, or_assoc}
 use mathlib.Core.List.{List, [], ◌∷◌, ◌++◌}
@@ -10,8 +11,6 @@ use lib.Dec.{eqb}
 use borrow.Author.Tests.{eq-eqb, ne_eqb}
 use Rattle.base.specs.Lists.{sum, sum_to}
 use Rattle.base.proofs.Sums.{list_append, sum_ext, sum_zero, sum_one_more}
-use Rattle.refusals.specs.declared.Answer.{Answer}
-use Rattle.refusals.specs.declared.Answer.TheVariants.{Done, Refused}
 use Rattle.refusals.specs.declared.Refusal.{Refusal}
 use Rattle.weighted_arrays.specs.Plan.{Plan, cell_count, array_for}
 use Rattle.campaign_draw.specs.Draw.{Made}
@@ -29,19 +28,19 @@ unfolding over_accepted sum
 over_more f h t = omega (arith, list_append (λ x. cond (is_done x.answer) (f x) 0) h (t ∷ []))
 
 module _ (h : List Made) (t : Made) where
-  module _ (a : t.answer ≡ Done) where
+  module _ (a : t.answer ≡ Ok tt) where
     pub used_accepted : (d : ℕ) → used (h ++ (t ∷ [])) d ≡ (used h d || eqb t.asked.number d)
-    used_accepted d = used-more h t d ∙ ap (λ (x : Answer). used h d || is_done x && eqb t.asked.number d) a
+    used_accepted d = used-more h t d ∙ ap (λ (x : Result ⊤ Refusal). used h d || is_done x && eqb t.asked.number d) a
 
     pub over_accepted_lem : (f : Made → ℕ) → over_accepted f (h ++ (t ∷ [])) ≡ over_accepted f h + f t
-    over_accepted_lem f = over_more f h t ∙ ap (λ (x : Answer). over_accepted f h + cond (is_done x) (f t) 0) a
+    over_accepted_lem f = over_more f h t ∙ ap (λ (x : Result ⊤ Refusal). over_accepted f h + cond (is_done x) (f t) 0) a
 
-  module _ {x : Refusal} (a : t.answer ≡ Refused x) where
+  module _ {x : Refusal} (a : t.answer ≡ Err x) where
     pub used_refused : (d : ℕ) → used (h ++ (t ∷ [])) d ≡ used h d
-    used_refused d = used-more h t d ∙ ap (λ (y : Answer). used h d || is_done y && eqb t.asked.number d) a ∙ or-false (used h d)
+    used_refused d = used-more h t d ∙ ap (λ (y : Result ⊤ Refusal). used h d || is_done y && eqb t.asked.number d) a ∙ or-false (used h d)
 
     pub over_refused : (f : Made → ℕ) → over_accepted f (h ++ (t ∷ [])) ≡ over_accepted f h
-    over_refused f = over_more f h t ∙ ap (λ (y : Answer). over_accepted f h + cond (is_done y) (f t) 0) a ∙ add-zero (over_accepted f h)
+    over_refused f = over_more f h t ∙ ap (λ (y : Result ⊤ Refusal). over_accepted f h + cond (is_done y) (f t) 0) a ∙ add-zero (over_accepted f h)
 
 -- Of the draws of a round: any number that arrays have comes to the same, added up over the arrays that accepted draws wrote out and over the arrays of the
 -- used numbers, since each of these was accepted once.
@@ -54,11 +53,11 @@ unfolding over_accepted sum used
 spent_none p = record { over = λ f. sym (sum_zero p.denominator) }
 
 module _ {p : Plan} {h : List Made} (spent : Spent p h) (t : Made) where
-  pub spent_refused : {x : Refusal} → t.answer ≡ Refused x → Spent p (h ++ (t ∷ []))
+  pub spent_refused : {x : Refusal} → t.answer ≡ Err x → Spent p (h ++ (t ∷ []))
   spent_refused a = record { over = λ f. over_refused h t a _ ∙ spent.over f ∙ sum_ext p.denominator _ _ (λ d l. rw (used_refused h t a d)) }
 
   -- an accepted draw of a number that the round has not used
-  pub spent_accepted : t.answer ≡ Done → t.asked.number < p.denominator → used h t.asked.number ≡ false
+  pub spent_accepted : t.answer ≡ Ok tt → t.asked.number < p.denominator → used h t.asked.number ≡ false
       → take (cell_count p) t.result ≡ array_for p.arrays t.asked.number → Spent p (h ++ (t ∷ []))
   spent_accepted a below new wrote = record {
     over = λ f.

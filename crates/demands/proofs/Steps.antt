@@ -1,4 +1,5 @@
 -- What holds after each draw of a run, of its rounds and of the record. Assumes nothing.
+use Rattle.std.specs.Prelude.{Ok, Err}
 use mathlib.Core.Path.{◌≡◌, refl, sym, ap, ap₂, ◌∙◌, subst}
 use mathlib.Core.Bool.{Bool, true, false, cond, ◌||◌}
 use mathlib.Core.List.Memᴰ
@@ -17,7 +18,6 @@ use Rattle.base.proofs.Tests.{test_times, test_or}
 use Rattle.base.proofs.Buffers.{written_at, written_length, written_beyond}
 use Rattle.table.specs.Table.{total}
 use Rattle.table.proofs.Totals.{total_one}
-use Rattle.refusals.specs.declared.Answer.TheVariants.{Done, Refused}
 use Rattle.refusals.specs.declared.Refusal.{Refusal}
 use Rattle.weighted_arrays.specs.Plan.{Plan, cell_count, array_for}
 use Rattle.opening.proofs.Sound.{Sound}
@@ -100,7 +100,7 @@ abbrev with : Rounds → Made → Rounds
 with r t = record { completed = r.completed; current = r.current ++ (t ∷ []) }
 
 -- a refused draw changes nothing, and completes no round
-module _ {p : Plan} {s₀ s : CampaignRecord} {h : List Made} {r : Rounds} (run : RunHolds p s₀ h r s) (t : Made) {x : Refusal} (a : t.answer ≡ Refused x) where
+module _ {p : Plan} {s₀ s : CampaignRecord} {h : List Made} {r : Rounds} (run : RunHolds p s₀ h r s) (t : Made) {x : Refusal} (a : t.answer ≡ Err x) where
   holds_refused : Holds p s₀ (h ++ (t ∷ [])) (with r t) s
   holds_refused =
       let holds = run.holds in
@@ -135,7 +135,7 @@ module _ {p : Plan} {s₀ s : CampaignRecord} {h : List Made} {r : Rounds} (run 
 
 -- an accepted draw of a number that is not used in this round
 module _ {p : Plan} {s₀ s : CampaignRecord} {h : List Made} {r : Rounds} (holds : Holds p s₀ h r s) (room : room_for p s₀ ≡ true) (t : Made)
-    (a : t.answer ≡ Done) (below : t.asked.number < p.denominator) (new : used r.current t.asked.number ≡ false)
+    (a : t.answer ≡ Ok tt) (below : t.asked.number < p.denominator) (new : used r.current t.asked.number ≡ false)
     (wrote : take (cell_count p) t.result ≡ array_for p.arrays t.asked.number) where
   set_bit : (e : ℕ) → bit_of (taking p t.asked.number s).bits e ≡ cond (eqb t.asked.number e) 1 (bit_of s.bits e)
   unfolding taking
@@ -211,7 +211,7 @@ module _ {p : Plan} {s₀ s : CampaignRecord} {h : List Made} {r : Rounds} (hold
 
 -- an accepted draw, with the round that it may complete
 module _ {p : Plan} {s₀ s : CampaignRecord} {h : List Made} {r : Rounds} (run : RunHolds p s₀ h r s) (room : room_for p s₀ ≡ true)
-    (some : 1 ≤ p.denominator) (t : Made) (a : t.answer ≡ Done) (below : t.asked.number < p.denominator) (going : length r.completed < max_rounds)
+    (some : 1 ≤ p.denominator) (t : Made) (a : t.answer ≡ Ok tt) (below : t.asked.number < p.denominator) (going : length r.completed < max_rounds)
     (new : used r.current t.asked.number ≡ false)
     (wrote : take (cell_count p) t.result ≡ array_for p.arrays t.asked.number) where
   abbrev counted : ℕ

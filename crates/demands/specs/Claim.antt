@@ -1,12 +1,11 @@
 -- What every run of a campaign is held to (specification, "What every campaign is held to"). `started` and `made` are the definitions that the code of a start and of a
 -- campaign draw is equated with. Assumes nothing.
-use Rattle.std.specs.Prelude.{◌≡◌, true, false, cond, ℕ, ◌+◌, ◌-◌, ◌*◌, ◌<◌, ◌≤◌, length, get_or, drop, leb, ltb, None}
+use Rattle.std.specs.Prelude.{◌≡◌, true, false, cond, ℕ, ◌+◌, ◌-◌, ◌*◌, ◌<◌, ◌≤◌, length, get_or, drop, leb, ltb, None, Ok, Err}
 use mathlib.Core.List.{List, [], ◌∷◌, ◌++◌, map, Memᴰ as Member}
 use Rattle.base.specs.Buffers.{written}
 use Rattle.table.specs.Table.{total}
 use Rattle.table.specs.Whole.{down, up}
 use Rattle.refusals.specs.Answer.{answer_number}
-use Rattle.refusals.specs.declared.Answer.TheVariants.{Done, Refused}
 use Rattle.refusals.specs.declared.Refusal.{Refusal}
 use Rattle.weighted_arrays.specs.Plan.{Plan, cell_count}
 use Rattle.form.specs.Form.{decode}
@@ -32,10 +31,10 @@ pub record DrawClaim (b : List ℕ) (earlier : Rounds) (t : Made) : Type 0 where
   -- who is accepted
   pub number : answer_number t.answer ≡ number_due (decode b) (length earlier.completed) earlier.current t.asked
   -- an accepted draw wrote the array that belongs to its number, which is what the plain draw gives, and left its buffer's rest
-  pub wrote : t.answer ≡ Done
+  pub wrote : t.answer ≡ Ok tt
       → (draw_refusal b t.asked.number (length t.asked.buffer) ≡ None) × (t.result ≡ written (drawn_array b t.asked.number) t.asked.buffer)
   -- a refused draw left buffer and record as they were
-  pub kept : (x : Refusal) → t.answer ≡ Refused x → (t.result ≡ t.asked.buffer) × (t.left ≡ t.given)
+  pub kept : (x : Refusal) → t.answer ≡ Err x → (t.result ≡ t.asked.buffer) × (t.left ≡ t.given)
 
 -- what holds inside a round, at any time of it: used, m and drawn are counted in its own draws
 pub record RoundClaim (p : Plan) (round : List Made) : Type 0 where
@@ -74,7 +73,7 @@ pub record RecordClaim (p : Plan) (s₀ : CampaignRecord) (run : List Made) (r :
 -- what holds of a start on bytes b that open, with a record s₀, and then the list l of draws: `run` as they were made, r the same round by round
 pub record RunClaim (b : List ℕ) (s₀ : CampaignRecord) (l : List Asked) (p : Plan) (run : List Made) (r : Rounds) (end : CampaignRecord) : Type 0 where
   -- the start is accepted, whatever the record held
-  pub start : (started b s₀).answer ≡ Done
+  pub start : (started b s₀).answer ≡ Ok tt
   -- the draws made are those asked for, each as claimed
   pub asked : map (λ t. t.asked) run ≡ l
   pub each : (earlier : List Made) (t : Made) (later : List Made) → run ≡ earlier ++ (t ∷ later) → DrawClaim b (rounds_of p.denominator earlier) t

@@ -1,9 +1,8 @@
 -- A record that fits is the record of a run (specification, "Campaign record" and "What every campaign is held to"): one that was stored and read again is as
 -- good as one that never was. Assumes nothing.
-use Rattle.std.specs.Prelude.{◌≡◌, Bool, true, cond, ℕ, ◌<◌, get_or, replicate, eqb}
+use Rattle.std.specs.Prelude.{◌≡◌, Bool, true, cond, ℕ, ◌<◌, get_or, replicate, eqb, Ok}
 use mathlib.Core.List.{List, [], ◌∷◌, ◌++◌, map, Memᴰ as Member}
 use Rattle.base.specs.Lists.{join_to}
-use Rattle.refusals.specs.declared.Answer.TheVariants.{Done}
 use Rattle.weighted_arrays.specs.Plan.{Plan, cell_count}
 use Rattle.form.specs.Form.{decode}
 use Rattle.bits.specs.Bits.{bit_of}
@@ -35,7 +34,7 @@ pub record Resumable (p : Plan) (s : CampaignRecord) : Type 0 where
 -- such a record s; `start`, what a start on its buffers leaves; and `run`, the draws before, made from there
 pub record Resumed (b : List ℕ) (s start : CampaignRecord) (run : List Made) : Type 0 where
   -- each was accepted, and they leave the record, all of it
-  pub each_done : (t : Made) → Member t run → t.answer ≡ Done
+  pub each_done : (t : Made) → Member t run → t.answer ≡ Ok tt
   pub left : last_record start run ≡ s
   -- a list of draws from the record on goes on with this run, and both together are held to the claim
   pub goes_on_is : (l : List Asked) → draws b start (draws_before (decode b) s ++ l) ≡ run ++ draws b s l

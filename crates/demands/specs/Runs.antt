@@ -1,12 +1,11 @@
 -- A run of a campaign, by the draws that were made, and its rounds (specification, "What every campaign is held to"). Assumes nothing.
-use Rattle.std.specs.Prelude.{Bool, true, false, cond, ◌&&◌, ◌||◌, List, [], ◌∷◌, ◌++◌, map, ℕ, take, eqb}
+use Rattle.std.specs.Prelude.{Bool, true, false, cond, ◌&&◌, ◌||◌, List, [], ◌∷◌, ◌++◌, map, ℕ, take, eqb, Result, Ok, Err, ⊤}
 use Rattle.base.specs.Lists.{sum, sum_to}
 use Rattle.table.specs.Table.{total}
-use Rattle.refusals.specs.declared.Answer.{Answer}
-use Rattle.refusals.specs.declared.Answer.TheVariants.{Done, Refused}
 use Rattle.weighted_arrays.specs.Plan.{Plan, cell_count, array_for}
 use Rattle.records.specs.Record.{CampaignRecord}
 use Rattle.campaign_draw.specs.Draw.{Asked, Made, made}
+use Rattle.refusals.specs.declared.Refusal.{Refusal}
 
 -- a list of campaign draws, refused ones among them: each gets the same plan, and the record as the call before left it
 unfoldable pub draws : List ℕ → CampaignRecord → List Asked → List Made
@@ -18,9 +17,9 @@ unfoldable pub last_record : CampaignRecord → List Made → CampaignRecord
 last_record s [] = s
 last_record s (t ∷ l) = last_record t.left l
 
-abbrev pub is_done : Answer → Bool
-is_done Done = true
-is_done (Refused x) = false
+abbrev pub is_done : Result ⊤ Refusal → Bool
+is_done (Ok tt) = true
+is_done (Err x) = false
 
 -- whether a draw of number d was accepted
 unfoldable pub used : List Made → ℕ → Bool

@@ -1,9 +1,8 @@
 -- The walk through all controlled roundings of a small table (specification, "The walk"): the list that the two calls make, over the definitions that they are
 -- equated with. Assumes nothing.
-use Rattle.std.specs.Prelude.{◌≡◌, true, ℕ, ◌*◌, ◌^◌, ◌<◌, ◌≤◌, length, get_or, take}
+use Rattle.std.specs.Prelude.{◌≡◌, true, ℕ, ◌*◌, ◌^◌, ◌<◌, ◌≤◌, length, get_or, take, Ok}
 use mathlib.Core.List.{List, [], ◌∷◌, Memᴰ as Member}
 use Rattle.base.specs.Buffers.{written}
-use Rattle.refusals.specs.declared.Answer.TheVariants.{Done}
 use Rattle.refusals.specs.Due.{answer_of, after}
 use Rattle.is_rounding.specs.Rounding.{two_ways, is_rounding}
 use Rattle.first_rounding.specs.Order.{Before}
@@ -16,7 +15,7 @@ abbrev pub Begins : ℕ → ℕ → ℕ → List ℕ → List ℕ → Type 0
 Begins r c d g n =
     (buffer : List ℕ) → r * c ≤ length buffer
     → let o = first_refusal r c d g (length buffer) in
-    (answer_of o ≡ Done) × (take (r * c) (after o (written (first_rounding r c d g) buffer) buffer) ≡ n)
+    (answer_of o ≡ Ok tt) × (take (r * c) (after o (written (first_rounding r c d g) buffer) buffer) ≡ n)
 
 -- the second call, handed n, writes k; and it says that n was the last, and writes nothing
 abbrev pub GoesOn : ℕ → ℕ → ℕ → List ℕ → List ℕ → List ℕ → Type 0

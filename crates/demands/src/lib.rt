@@ -10,9 +10,8 @@
 // of corrections, in `corrections::claims`, with its refusals here.
 #![tactic(auto)]
 
-ghost use Rattle.std.specs.Prelude.{◌≡◌, true, List, map, ℕ, ◌*◌, ◌<◌, ◌≤◌, length, None};
+ghost use Rattle.std.specs.Prelude.{◌≡◌, true, List, map, ℕ, ◌*◌, ◌<◌, ◌≤◌, length, None, Result, ⊤};
 ghost use Rattle.base.specs.Lists.{sum};
-ghost use Rattle.refusals.specs.declared.Answer.{Answer};
 ghost use Rattle.refusals.specs.Due.{Answers};
 ghost use Rattle.table.specs.Table.{max_rows, max_columns, max_entries, entry_places};
 ghost use Rattle.table.specs.Whole.{down, whole};
@@ -20,7 +19,6 @@ ghost use Rattle.table.specs.Check.{table_refusal};
 ghost use Rattle.weighted_arrays.specs.Plan.{Weighted};
 ghost use Rattle.opening.specs.Open.{Opens};
 ghost use Rattle.planning.specs.Rounds.{limit_of};
-ghost use Rattle.plan.specs.declared.Planned.{Planned};
 ghost use Rattle.plan.specs.Call.{plan_bytes, PlanAnswers};
 ghost use Rattle.plan.specs.Promises.{Promises};
 ghost use Rattle.reasons.specs.Call.{reason_refusal};
@@ -38,6 +36,7 @@ ghost use Rattle.demands.specs.Numbers.{Belonging};
 ghost use Rattle.demands.specs.Examples.{ExamplesHold};
 ghost use Rattle.demands.specs.Campaigns.{runs, said_of};
 ghost use Rattle.demands.specs.Slips.{SlipsShut};
+ghost use Rattle.refusals.specs.declared.Refusal.{Refusal};
 
 pub fn claims()
     // every call returns the lowest refusal that applies, and one with refusals that came later the first in its order
@@ -55,10 +54,10 @@ pub fn claims()
     // and every list of draws from a record on that fits, wherever it was stored
     ensures resumes { (b : List ℕ) → Opens b → Resumes b }
     // and on what the call "plan" gives for every accepted table, in a buffer with room
-    ensures serves { (r c d : ℕ) (g old new : List ℕ) (p : Planned) → table_refusal r c d g ≡ None → length (plan_bytes r c d g) ≤ length old
+    ensures serves { (r c d : ℕ) (g old new : List ℕ) (p : Result ℕ Refusal) → table_refusal r c d g ≡ None → length (plan_bytes r c d g) ≤ length old
         → PlanAnswers r c d g old p new → Served r c d g p new }
     // two tables that are pooled into buffers with room, and the pool then planned
-    ensures pools { (r c d : ℕ) (g : List ℕ) (e : ℕ) (h : List ℕ) (old new : Lent) (a : Answer) → pooling_refusal r c d g e h ≡ None
+    ensures pools { (r c d : ℕ) (g : List ℕ) (e : ℕ) (h : List ℕ) (old new : Lent) (a : Result ⊤ Refusal) → pooling_refusal r c d g e h ≡ None
         → 1 ≤ length old.denominator → r * c ≤ length old.cells
         → Answers (pool_refusal r c d g e h (length old.denominator) (length old.cells)) (pooled_into d g e h old) old a new
         → ServedPool r c d g e h a new }

@@ -1,5 +1,5 @@
 -- What drawing from a plan answers and writes. Assumes nothing.
-use Rattle.std.specs.Prelude.{Some, None}
+use Rattle.std.specs.Prelude.{Some, None, Ok, Err}
 use mathlib.Core.Path.{◌≡◌, sym, ap, ◌∙◌}
 use mathlib.Core.List.{List, [], ◌∷◌}
 use Prim.Native.Nat.{ℕ, suc, ◌+◌, ◌*◌, ◌-◌, ◌<◌, ◌≤◌}
@@ -20,7 +20,6 @@ use Rattle.form.specs.declared.Sizes.{Sizes}
 use Rattle.weighted_arrays.specs.Plan.{Weighted, array_at, weights_before, Belongs}
 use Rattle.form.specs.Form.{decode}
 use Rattle.reading.specs.Clauses.{HasCounts, Sized}
-use Rattle.opening.specs.declared.Opened.TheVariants as opened
 use Rattle.opening.specs.Open.{open_tests, open_refusal, open_answer}
 use Rattle.drawing.specs.Draw.{draw_refusal, drawn_array}
 use Rattle.drawing.specs.Clauses.{Drawing, Drawable}
@@ -76,11 +75,11 @@ module _ {s : Sizes} {b : List ℕ} {d : ℕ} {counts : List ℕ} (h : Drawing s
         q ∙ ap (λ (l : List ℕ). written l old) (sym (array_for_lem (decode b).arrays d k p.there p.before more))
 
 -- what is due of a draw with a buffer of m counts
-pub refused_first : (b : List ℕ) (d m : ℕ) (x : Refusal) → open_answer b ≡ opened.Refused x → draw_refusal b d m ≡ Some x
+pub refused_first : (b : List ℕ) (d m : ℕ) (x : Refusal) → open_answer b ≡ Err x → draw_refusal b d m ≡ Some x
 unfolding draw_refusal open_refusal
 refused_first b d m x e = due_first (open_tests b) _ x (is_refused b x e)
 
-module _ (b : List ℕ) (d m : ℕ) (s : Sizes) (o : open_answer b ≡ opened.Plan s) where
+module _ (b : List ℕ) (d m : ℕ) (s : Sizes) (o : open_answer b ≡ Ok s) where
   draw_by : draw_refusal b d m ≡ due (refuse Buffer (ltb m (s.rows * s.columns)) ∷ refuse Number (leb s.denominator d) ∷ [])
   unfolding draw_refusal open_refusal
   draw_by = let i = is_open b s o in rw i.sizes (due_second (open_tests b) _ i.opens)

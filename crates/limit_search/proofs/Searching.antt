@@ -1,4 +1,5 @@
 -- What the search of a block keeps, and what the searches of three blocks find. Assumes nothing.
+use Rattle.std.specs.Prelude.{Option, Some, None}
 use mathlib.Core.Path.{◌≡◌, refl, sym, ap, ap₂, ◌∙◌}
 use mathlib.Core.Bool.{Bool, true, false, cond}
 use mathlib.Core.List.{List, [], ◌∷◌, ◌++◌}
@@ -16,8 +17,6 @@ use Rattle.base.specs.Search.{first_that}
 use Rattle.base.proofs.Lists.{tabulate_ext}
 use Rattle.base.proofs.Searches.{first_append, first_at, first_none}
 use Rattle.grid.specs.Clauses.{grid_place, grid_order}
-use Rattle.limit_search.specs.declared.Found.{Found}
-use Rattle.limit_search.specs.declared.Found.TheVariants.{At, Nowhere}
 use Rattle.limit_search.specs.Clauses.{Block, block, InGrid, block_place, block_places, holds, found_or, Sizes}
 
 -- none of the first m places of a block holds x
@@ -25,7 +24,7 @@ abbrev pub NoneTo : List ℕ → ℕ → Block → ℕ → Type 0
 NoneTo l x b m = (k : ℕ) → k < m → holds l x (block_place b k) ≡ false
 
 -- what a search has to find
-abbrev pub Finds : List ℕ → ℕ → Block → Found → Type 0
+abbrev pub Finds : List ℕ → ℕ → Block → Option ℕ → Type 0
 Finds l x b f = (other : ℕ) → found_or f other ≡ first_that (holds l x) (block_places b) other
 
 module _ (l : List ℕ) (x : ℕ) (b : Block) where
@@ -51,12 +50,12 @@ module _ (l : List ℕ) (x : ℕ) (b : Block) where
         go (no p) = f k (omega arith)
 
     pub found_here : i < b.rows → NoneTo l x b (i * b.columns + j) → get_or l ((b.top + i) * 13 + (b.left + j)) 0 ≡ x
-        → Finds l x b (At ((b.top + i) * 13 + (b.left + j)))
+        → Finds l x b (Some ((b.top + i) * 13 + (b.left + j)))
     found_here hi f e other =
         sym place_is
         ∙ sym (first_at (holds l x) (b.rows * b.columns) (block_place b) other (i * b.columns + j) (digits_lt hi h) f (ap (holds l x) place_is ∙ eq-eqb _ x e))
 
-  pub found_nowhere : (i : ℕ) {f : Found} → f ≡ Nowhere → b.rows ≤ i → NoneTo l x b (i * b.columns) → Finds l x b f
+  pub found_nowhere : (i : ℕ) {f : Option ℕ} → f ≡ None → b.rows ≤ i → NoneTo l x b (i * b.columns) → Finds l x b f
   found_nowhere i e h f other =
       rw e (sym (first_none (holds l x) (b.rows * b.columns) (block_place b) other (λ k q. f k (let p : b.rows * b.columns ≤ i * b.columns = mul-le-mul_right b.columns h in omega arith))))
 
@@ -125,7 +124,7 @@ module _ {r c : ℕ} (z : Sizes r c) where
       ∙ tabulate_ext c _ _ (λ k h. rw (div-eq_of_lt h, mod-eq_of_lt h) (omega arith))
 
   -- one block after another, and then the grand total
-  pub first_is : (l : List ℕ) (x : ℕ) (f g h : Found) → Finds l x (cell_block r c) f → Finds l x (row_block r) g → Finds l x (column_block c) h
+  pub first_is : (l : List ℕ) (x : ℕ) (f g h : Option ℕ) → Finds l x (cell_block r c) f → Finds l x (row_block r) g → Finds l x (column_block c) h
       → found_or f (found_or g (found_or h 168)) ≡ first_that (holds l x) (grid_order r c) 168
   unfolding grid_order
   first_is l x f g h cell row column =
@@ -135,20 +134,20 @@ module _ {r c : ℕ} (z : Sizes r c) where
       ∙ chain (holds l x) _ _ _
 
   -- the four ways out
-  module _ (l : List ℕ) (x : ℕ) (f g h : Found) (cell : Finds l x (cell_block r c) f) (row : Finds l x (row_block r) g) (column : Finds l x (column_block c) h) where
+  module _ (l : List ℕ) (x : ℕ) (f g h : Option ℕ) (cell : Finds l x (cell_block r c) f) (row : Finds l x (row_block r) g) (column : Finds l x (column_block c) h) where
     found : {k : ℕ} → found_or f (found_or g (found_or h 168)) ≡ k → k ≡ first_that (holds l x) (grid_order r c) 168
     found e = sym e ∙ first_is l x f g h cell row column
 
-    pub found_cell : {k : ℕ} → f ≡ At k → k ≡ first_that (holds l x) (grid_order r c) 168
+    pub found_cell : {k : ℕ} → f ≡ Some k → k ≡ first_that (holds l x) (grid_order r c) 168
     found_cell e = found (rw e refl)
 
-    module _ (a : f ≡ Nowhere) where
-      pub found_row : {k : ℕ} → g ≡ At k → k ≡ first_that (holds l x) (grid_order r c) 168
+    module _ (a : f ≡ None) where
+      pub found_row : {k : ℕ} → g ≡ Some k → k ≡ first_that (holds l x) (grid_order r c) 168
       found_row e = found (rw (a, e) refl)
 
-      module _ (b : g ≡ Nowhere) where
-        pub found_column : {k : ℕ} → h ≡ At k → k ≡ first_that (holds l x) (grid_order r c) 168
+      module _ (b : g ≡ None) where
+        pub found_column : {k : ℕ} → h ≡ Some k → k ≡ first_that (holds l x) (grid_order r c) 168
         found_column e = found (rw (a, b, e) refl)
 
-        pub found_grand : h ≡ Nowhere → 168 ≡ first_that (holds l x) (grid_order r c) 168
+        pub found_grand : h ≡ None → 168 ≡ first_that (holds l x) (grid_order r c) 168
         found_grand e = found (rw (a, b, e) refl)

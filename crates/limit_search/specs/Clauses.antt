@@ -1,10 +1,8 @@
 -- What the search of a grid for a number requires and promises. Assumes nothing.
-use Rattle.std.specs.Prelude.{Bool, List, ℕ, ◌+◌, ◌*◌, ◌/◌, ◌%◌, ◌≤◌, get_or, eqb}
+use Rattle.std.specs.Prelude.{Bool, List, ℕ, ◌+◌, ◌*◌, ◌/◌, ◌%◌, ◌≤◌, get_or, eqb, Option, Some, None}
 use Rattle.base.specs.Lists.{tabulate}
 use Rattle.table.specs.Table.{max_rows, max_columns}
 use Rattle.grid.specs.Clauses.{grid_place}
-use Rattle.limit_search.specs.declared.Found.{Found}
-use Rattle.limit_search.specs.declared.Found.TheVariants.{At, Nowhere}
 
 -- a block of the grid of 13 by 13: its first row and column, and how many it has
 pub record Block : Type 0 where
@@ -33,9 +31,9 @@ abbrev pub holds : List ℕ → ℕ → ℕ → Bool
 holds l x k = eqb (get_or l k 0) x
 
 -- where a search found x, or another place where it did not
-abbrev pub found_or : Found → ℕ → ℕ
-found_or (At k) other = k
-found_or Nowhere other = other
+abbrev pub found_or : Option ℕ → ℕ → ℕ
+found_or (Some k) other = k
+found_or None other = other
 
 -- sizes within the bounds
 pub record Sizes (r c : ℕ) : Type 0 where

@@ -1,5 +1,5 @@
 -- What opening a plan answers, and what an opened plan says. Assumes nothing.
-use Rattle.std.specs.Prelude.{Option, Some, None}
+use Rattle.std.specs.Prelude.{Option, Some, None, Ok, Err}
 use mathlib.Core.Path.{◌≡◌, refl, sym, ◌∙◌}
 use mathlib.Core.Bool.{Bool, true, false, not}
 use mathlib.Core.List.{List}
@@ -16,13 +16,12 @@ use Rattle.refusals.proofs.Dues.{not_here, not_later}
 use Rattle.form.specs.declared.Sizes.{Sizes}
 use Rattle.form.specs.Form.{sizes_of, laid_out, decode}
 use Rattle.form.proofs.Layouts.{laid}
-use Rattle.opening.specs.declared.Opened.TheVariants as opened
 use Rattle.opening.specs.Open.{consistent, open_refusal, Opens, open_answer}
 use Rattle.reading.specs.Clauses.{Sized}
 use Rattle.reading.proofs.Sizing.{sized_fits}
 
 module _ (b : List ℕ) (t : Bool) (e : t ≡ laid_out b) where
-  pub not_laid : not t ≡ true → opened.Refused Layout ≡ open_answer b
+  pub not_laid : not t ≡ true → Err Layout ≡ open_answer b
   unfolding open_answer open_refusal due
   not_laid h = simp (sym e ∙ not-true t h)
 
@@ -35,11 +34,11 @@ module _ (b : List ℕ) (t : Bool) (e : t ≡ laid_out b) where
       laid_sizes = record { laid_out_is = sym e ∙ not-false t h; sizes = is }
 
       module _ (x : Bool) (xe : x ≡ consistent (decode b)) where
-        pub not_consistent : not x ≡ true → opened.Refused Content ≡ open_answer b
+        pub not_consistent : not x ≡ true → Err Content ≡ open_answer b
         unfolding open_answer open_refusal due
         not_consistent q = simp (sym e ∙ not-false t h, sym xe ∙ not-true x q)
 
-        pub plan_opened : not x ≡ false → opened.Plan s ≡ open_answer b
+        pub plan_opened : not x ≡ false → Ok s ≡ open_answer b
         unfolding open_answer open_refusal due
         plan_opened q = simp (sym e ∙ not-false t h, sym xe ∙ not-false x q, is)
 
@@ -65,28 +64,28 @@ pub record IsOpen (s : Sizes) (b : List ℕ) : Type 0 where
 
 -- an answer tells what is due
 module _ (b : List ℕ) where
-  pub is_open : (s : Sizes) → open_answer b ≡ opened.Plan s → IsOpen s b
+  pub is_open : (s : Sizes) → open_answer b ≡ Ok s → IsOpen s b
   unfolding open_answer
   is_open s e = go (open_refusal b) refl e
     where
-      go : (o : Option Refusal) → open_refusal b ≡ o → refused_or opened.Refused (opened.Plan (sizes_of b)) o ≡ opened.Plan s → IsOpen s b
+      go : (o : Option Refusal) → open_refusal b ≡ o → refused_or Err (Ok (sizes_of b)) o ≡ Ok s → IsOpen s b
       go None p q = record { sizes = cc; opens = p; laid_out_is = opens_layout b p }
       go (Some x) p q = absurd (let z : ◌≡◌ {A = ℕ} 0 1 = cc in omega arith)
 
-  pub is_refused : (x : Refusal) → open_answer b ≡ opened.Refused x → open_refusal b ≡ Some x
+  pub is_refused : (x : Refusal) → open_answer b ≡ Err x → open_refusal b ≡ Some x
   unfolding open_answer
   is_refused x e = go (open_refusal b) refl e
     where
-      go : (o : Option Refusal) → open_refusal b ≡ o → refused_or opened.Refused (opened.Plan (sizes_of b)) o ≡ opened.Refused x → open_refusal b ≡ Some x
+      go : (o : Option Refusal) → open_refusal b ≡ o → refused_or Err (Ok (sizes_of b)) o ≡ Err x → open_refusal b ≡ Some x
       go None p q = absurd (let z : ◌≡◌ {A = ℕ} 0 1 = cc in omega arith)
       go (Some y) p q = p ∙ cc
 
-  pub opens_answer : Opens b → open_answer b ≡ opened.Plan (sizes_of b)
+  pub opens_answer : Opens b → open_answer b ≡ Ok (sizes_of b)
   unfolding open_answer
   opens_answer h = rw h
 
-  pub opened_sized : (s : Sizes) → open_answer b ≡ opened.Plan s → Sized s b
+  pub opened_sized : (s : Sizes) → open_answer b ≡ Ok s → Sized s b
   opened_sized s e = let o = is_open s e in record { laid_out_is = o.laid_out_is; sizes = o.sizes }
 
-  pub sizes_product : (s : Sizes) → open_answer b ≡ opened.Plan s → Fits w64 (s.rows * s.columns)
+  pub sizes_product : (s : Sizes) → open_answer b ≡ Ok s → Fits w64 (s.rows * s.columns)
   sizes_product s e = sized_fits (opened_sized s e)

@@ -1,5 +1,5 @@
 -- When a plan opens, and the refusals of the calls that take one (specification, "Stored plan, form 1" and "Refusals"). Assumes nothing.
-use Rattle.std.specs.Prelude.{◌≡◌, Bool, not, ◌&&◌, List, [], ◌∷◌, ◌++◌, map, ℕ, ◌*◌, get_or, leb, ltb, eqb, Option, None}
+use Rattle.std.specs.Prelude.{◌≡◌, Bool, not, ◌&&◌, List, [], ◌∷◌, ◌++◌, map, ℕ, ◌*◌, get_or, leb, ltb, eqb, Option, None, Result, Ok, Err}
 use Rattle.base.specs.Lists.{sum, all, every}
 use Rattle.table.specs.Table.{entry_places, total}
 use Rattle.table.specs.Whole.{rounds_to}
@@ -8,10 +8,9 @@ use Rattle.refusals.specs.Numbers.{number_of}
 use Rattle.refusals.specs.declared.Refusal.{Refusal}
 use Rattle.refusals.specs.Due.{Test, refuse, due, refused_or}
 use Rattle.refusals.specs.declared.Refusal.TheVariants.{Layout, Content, Buffer}
-use Rattle.opening.specs.declared.Opened.{Opened}
-use Rattle.opening.specs.declared.Opened.TheVariants as opened
 use Rattle.weighted_arrays.specs.Plan.{Weighted, Plan}
 use Rattle.form.specs.Form.{sizes_of, laid_out, decode}
+use Rattle.form.specs.declared.Sizes.{Sizes}
 
 -- the entries that the arrays of an opened plan are held to, and these are all: every cell, row total and column total and the grand total is the table's
 -- over D, rounded down or up
@@ -47,13 +46,13 @@ abbrev pub Opens : List ℕ → Type 0
 Opens b = open_refusal b ≡ None
 
 -- the call "open" answers with the plan's sizes
-unfoldable pub open_answer : List ℕ → Opened
-open_answer b = refused_or opened.Refused (opened.Plan (sizes_of b)) (open_refusal b)
+unfoldable pub open_answer : List ℕ → Result Sizes Refusal
+open_answer b = refused_or Err (Ok (sizes_of b)) (open_refusal b)
 
 -- the number that each answer stands for: 0 for a plan that opens, else the refusal's
-abbrev pub opened_number : Opened → ℕ
-opened_number (opened.Plan s) = 0
-opened_number (opened.Refused x) = number_of x
+abbrev pub opened_number : Result Sizes Refusal → ℕ
+opened_number (Ok s) = 0
+opened_number (Err x) = number_of x
 
 -- The refusals of a call that takes a plan and writes `need` numbers into a buffer of `room`: those of opening, 5 and 6; 7, the buffer is too short
 abbrev pub part_tests : List ℕ → ℕ → ℕ → List Test

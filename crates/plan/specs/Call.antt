@@ -1,5 +1,5 @@
 -- The call "plan" (specification, "Stored plan, form 1" and "Refusals": 1, 2, 3, 4, 7). Assumes nothing.
-use Rattle.std.specs.Prelude.{◌≡◌, List, [], ◌∷◌, ◌++◌, ℕ, ◌<◌, ◌≤◌, length, ltb, Option}
+use Rattle.std.specs.Prelude.{◌≡◌, List, [], ◌∷◌, ◌++◌, ℕ, ◌<◌, ◌≤◌, length, ltb, Option, Result, Ok, Err}
 use Rattle.base.specs.Buffers.{written}
 use Rattle.refusals.specs.Numbers.{number_of}
 use Rattle.refusals.specs.declared.Refusal.{Refusal}
@@ -7,8 +7,6 @@ use Rattle.refusals.specs.declared.Refusal.TheVariants.{Buffer}
 use Rattle.refusals.specs.Due.{Test, refuse, due, refused_or, after}
 use Rattle.table.specs.Check.{table_tests}
 use Rattle.form.specs.Form.{min_length, encode}
-use Rattle.plan.specs.declared.Planned.{Planned}
-use Rattle.plan.specs.declared.Planned.TheVariants.{Length, Refused}
 use Rattle.planning.specs.Rounds.{plan_of}
 
 -- the stored plan of a table
@@ -24,21 +22,21 @@ unfoldable pub plan_refusal : ℕ → ℕ → ℕ → List ℕ → ℕ → Optio
 plan_refusal r c d g room = due (plan_tests r c d g room)
 
 -- the answer: the plan's length, or what is due
-unfoldable pub plan_answer : ℕ → ℕ → ℕ → List ℕ → ℕ → Planned
-plan_answer r c d g room = refused_or Refused (Length (length (plan_bytes r c d g))) (plan_refusal r c d g room)
+unfoldable pub plan_answer : ℕ → ℕ → ℕ → List ℕ → ℕ → Result ℕ Refusal
+plan_answer r c d g room = refused_or Err (Ok (length (plan_bytes r c d g))) (plan_refusal r c d g room)
 
 -- what the call is held to, with a buffer that holds `old`: its answer p, and what the buffer holds afterwards.
 -- A refusal leaves the buffer as it was.
-pub record PlanAnswers (r c d : ℕ) (g old : List ℕ) (p : Planned) (new : List ℕ) : Type 0 where
+pub record PlanAnswers (r c d : ℕ) (g old : List ℕ) (p : Result ℕ Refusal) (new : List ℕ) : Type 0 where
   pub answer : p ≡ plan_answer r c d g (length old)
   pub buffer : new ≡ after (plan_refusal r c d g (length old)) (written (plan_bytes r c d g) old) old
 
 -- the number returned: the length (30 or more), or the refusal's
-abbrev pub planned_number : Planned → ℕ
-planned_number (Length n) = n
-planned_number (Refused x) = number_of x
+abbrev pub planned_number : Result ℕ Refusal → ℕ
+planned_number (Ok n) = n
+planned_number (Err x) = number_of x
 
 -- the number tells which of the two it is: a length is 30 or more, and no refusal's number is
-abbrev pub Apart : Planned → Type 0
-Apart (Length n) = min_length ≤ n
-Apart (Refused x) = number_of x < min_length
+abbrev pub Apart : Result ℕ Refusal → Type 0
+Apart (Ok n) = min_length ≤ n
+Apart (Err x) = number_of x < min_length

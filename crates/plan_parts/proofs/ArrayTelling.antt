@@ -1,4 +1,5 @@
 -- What the call that tells an array answers and writes, by the tests on its way. Assumes nothing.
+use Rattle.std.specs.Prelude.{Result, Ok, Err, ⊤}
 use mathlib.Core.Path.{◌≡◌, sym, ap, ◌∙◌}
 use mathlib.Core.Bool.{not, ◌||◌, false}
 use mathlib.Core.List.{List, [], ◌∷◌}
@@ -11,8 +12,6 @@ use mir.Syntax.{w64}
 use borrow.Author.Tests.{lt-ltb, le-ltb}
 use Rattle.base.specs.Buffers.{written}
 use Rattle.base.proofs.Buffers.{one_set}
-use Rattle.refusals.specs.declared.Answer.{Answer}
-use Rattle.refusals.specs.declared.Answer.TheVariants.{Done, Refused}
 use Rattle.refusals.specs.declared.Refusal.{Refusal}
 use Rattle.refusals.specs.declared.Refusal.TheVariants.{Array, Buffer}
 use Rattle.refusals.specs.Due.{refuse, due, Answers}
@@ -24,24 +23,22 @@ use Rattle.weighted_arrays.specs.Plan.{cell_count, array_at}
 use Rattle.form.specs.Form.{decode}
 use Rattle.reading.specs.Clauses.{Sized, HasArray, HasCounts}
 use Rattle.reading.proofs.Sizing.{arrays_are, cells_are, has_array, has_counts}
-use Rattle.opening.specs.declared.Opened.{Opened}
-use Rattle.opening.specs.declared.Opened.TheVariants as opened
 use Rattle.opening.specs.Open.{open_tests, open_refusal, open_answer}
 use Rattle.opening.proofs.Opening.{is_open, is_refused, opened_sized, sizes_product}
 use Rattle.plan_parts.specs.Array.{Buffers, buffers, array_refusal, array_into}
 
-pub counts_product : (b : List ℕ) {o : Opened} → o ≡ open_answer b → {s : Sizes} → o ≡ opened.Plan s → Fits w64 (s.rows * s.columns)
+pub counts_product : (b : List ℕ) {o : Result Sizes Refusal} → o ≡ open_answer b → {s : Sizes} → o ≡ Ok s → Fits w64 (s.rows * s.columns)
 counts_product b is {s} e = sizes_product b s (sym is ∙ e)
 
-module _ (b : List ℕ) (k : ℕ) (weights counts : List ℕ) {o : Opened} (is : o ≡ open_answer b) where
-  abbrev Tells : Answer → Buffers → Type 0
+module _ (b : List ℕ) (k : ℕ) (weights counts : List ℕ) {o : Result Sizes Refusal} (is : o ≡ open_answer b) where
+  abbrev Tells : Result ⊤ Refusal → Buffers → Type 0
   Tells a new = Answers (array_refusal b k (length weights) (length counts)) (array_into b k (buffers weights counts)) (buffers weights counts) a new
 
-  pub array_refused : {x : Refusal} → o ≡ opened.Refused x → Tells (Refused x) (buffers weights counts)
+  pub array_refused : {x : Refusal} → o ≡ Err x → Tells (Err x) (buffers weights counts)
   unfolding array_refusal open_refusal
   array_refused {x} e = refused_so (due_first (open_tests b) _ x (is_refused b x (sym is ∙ e)))
 
-  module _ {s : Sizes} (e : o ≡ opened.Plan s) where
+  module _ {s : Sizes} (e : o ≡ Ok s) where
     sized : Sized s b
     sized = opened_sized b s (sym is ∙ e)
 
@@ -50,14 +47,14 @@ module _ (b : List ℕ) (k : ℕ) (weights counts : List ℕ) {o : Opened} (is :
     unfolding array_refusal open_refusal
     after_opening = due_second (open_tests b) _ (is_open b s (sym is ∙ e)).opens
 
-    no_array : up_to (length (decode b).arrays) k ≡ false → Tells (Refused Array) (buffers weights counts)
+    no_array : up_to (length (decode b).arrays) k ≡ false → Tells (Err Array) (buffers weights counts)
     unfolding due
     no_array h = refused_so (after_opening ∙ simp h)
 
-    pub array_zero : k < 1 → Tells (Refused Array) (buffers weights counts)
+    pub array_zero : k < 1 → Tells (Err Array) (buffers weights counts)
     array_zero h = no_array (sym (too_small (length (decode b).arrays) k h))
 
-    pub array_above : s.arrays < k → Tells (Refused Array) (buffers weights counts)
+    pub array_above : s.arrays < k → Tells (Err Array) (buffers weights counts)
     array_above h = no_array (sym (too_large (length (decode b).arrays) k (omega (arith, arrays_are sized))))
 
     module _ (some : 1 ≤ k) (there : k ≤ s.arrays) where
@@ -66,7 +63,7 @@ module _ (b : List ℕ) (k : ℕ) (weights counts : List ℕ) {o : Opened} (is :
       unfolding due
       after_number = after_opening ∙ simp (inside (length (decode b).arrays) k some (omega (arith, arrays_are sized)))
 
-      pub weight_short : length weights < 1 → Tells (Refused Buffer) (buffers weights counts)
+      pub weight_short : length weights < 1 → Tells (Err Buffer) (buffers weights counts)
       unfolding due
       weight_short h = refused_so (after_number ∙ simp (lt-ltb (length weights) 1 h))
 
@@ -74,7 +71,7 @@ module _ (b : List ℕ) (k : ℕ) (weights counts : List ℕ) {o : Opened} (is :
       has_weight = has_array sized (omega arith)
 
       module _ (one : 1 ≤ length weights) where
-        pub counts_short : length counts < s.rows * s.columns → Tells (Refused Buffer) (buffers weights counts)
+        pub counts_short : length counts < s.rows * s.columns → Tells (Err Buffer) (buffers weights counts)
         unfolding due
         counts_short h = refused_so (after_number ∙ simp (le-ltb (length weights) 1 one, lt-ltb (length counts) (cell_count (decode b)) (omega (arith, cells_are sized))))
 
@@ -83,7 +80,7 @@ module _ (b : List ℕ) (k : ℕ) (weights counts : List ℕ) {o : Opened} (is :
           counts_ready = has_counts sized (omega arith) room
 
           pub array_told : {v : ℕ} {new : List ℕ} → v ≡ (array_at (decode b).arrays (k - 1)).weight → new ≡ written (array_at (decode b).arrays (k - 1)).counts counts
-              → Tells Done (buffers (set weights 0 v) new)
+              → Tells (Ok tt) (buffers (set weights 0 v) new)
           unfolding due
           array_told {v} {new} p q =
               let w : set weights 0 v ≡ written ((array_at (decode b).arrays (k - 1)).weight ∷ []) weights = one_set weights v one ∙ ap (λ (y : ℕ). written (y ∷ []) weights) p in

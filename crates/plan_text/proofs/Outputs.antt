@@ -1,5 +1,5 @@
 -- What is printed of a table's plan, and of the numbers of a text. Assumes nothing.
-use Rattle.std.specs.Prelude.{Option, Some, None}
+use Rattle.std.specs.Prelude.{Option, Some, None, Result, Ok, Err}
 use mathlib.Core.Path.{◌≡◌, refl, sym, ap, ◌∙◌}
 use mathlib.Core.Bool.{true, false}
 use mathlib.Core.List.{List, ◌++◌}
@@ -14,8 +14,6 @@ use Rattle.table.specs.Check.{table_refusal}
 use Rattle.table.proofs.Tables.{refused_table, refused_nothing}
 use Rattle.form.specs.Form.{max_length, laid_out, decode}
 use Rattle.opening.proofs.Opening.{opens_layout}
-use Rattle.plan.specs.declared.Planned.{Planned}
-use Rattle.plan.specs.declared.Planned.TheVariants.{Length, Refused}
 use Rattle.plan.specs.Call.{plan_bytes, plan_tests, plan_refusal, plan_answer, PlanAnswers}
 use Rattle.plan.proofs.Planning.{promised}
 use Rattle.table.proofs.Checks.{passed_all}
@@ -35,7 +33,7 @@ pub record Listed (n : ℕ) (new s : List ℕ) : Type 0 where
   pub lists : listing (decode (take n new)) ≡ s
 
 -- what the call "plan" left, in a buffer with room for any plan
-module _ {r c d : ℕ} {g old new : List ℕ} {p : Planned} (f : PlanAnswers r c d g old p new) (room : max_length ≤ length old) where
+module _ {r c d : ℕ} {g old new : List ℕ} {p : Result ℕ Refusal} (f : PlanAnswers r c d g old p new) (room : max_length ≤ length old) where
   -- with so much room nothing is due but what the table gives
   due_so : plan_refusal r c d g (length old) ≡ table_refusal r c d g
   unfolding plan_refusal
@@ -45,11 +43,11 @@ module _ {r c d : ℕ} {g old new : List ℕ} {p : Planned} (f : PlanAnswers r c
       go None e = refused_nothing r c d g (length old) _ e (omega (arith, (promised (passed_all r c d g e)).len_high)) ∙ sym e
       go (Some x) e = refused_table r c d g (length old) _ x e ∙ sym e
 
-  told : p ≡ refused_or Refused (Length (length (plan_bytes r c d g))) (table_refusal r c d g)
+  told : p ≡ refused_or Err (Ok (length (plan_bytes r c d g))) (table_refusal r c d g)
   unfolding plan_answer
-  told = f.answer ∙ ap (refused_or Refused (Length (length (plan_bytes r c d g)))) due_so
+  told = f.answer ∙ ap (refused_or Err (Ok (length (plan_bytes r c d g)))) due_so
 
-  pub refusal_printed : (x : Refusal) → p ≡ Refused x → (out after : List ℕ) (end : ℕ) → Wrote out 0 (refused (number_of x)) after end
+  pub refusal_printed : (x : Refusal) → p ≡ Err x → (out after : List ℕ) (end : ℕ) → Wrote out 0 (refused (number_of x)) after end
       → Wrote out 0 (table_output r c d g) after end
   refusal_printed x h out after end w = rw (go (table_refusal r c d g) refl) at w
     where
@@ -57,7 +55,7 @@ module _ {r c d : ℕ} {g old new : List ℕ} {p : Planned} (f : PlanAnswers r c
       go None e = let a = told in let z : ◌≡◌ {A = ℕ} 0 1 = cc in absurd (omega arith)
       go (Some y) e = let a = told in let q : x ≡ y = cc in ap (λ z. refused (number_of z)) q ∙ rw e refl
 
-  pub plan_listed : (n : ℕ) → p ≡ Length n → Listed n new (table_output r c d g)
+  pub plan_listed : (n : ℕ) → p ≡ Ok n → Listed n new (table_output r c d g)
   unfolding after
   plan_listed n h = go (table_refusal r c d g) refl
     where

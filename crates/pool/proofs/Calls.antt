@@ -1,5 +1,5 @@
 -- The ways through the call "pool". Assumes nothing.
-use Rattle.std.specs.Prelude.{Some, None}
+use Rattle.std.specs.Prelude.{Some, None, Result, Ok, Err, ⊤}
 use mathlib.Core.Path.{◌≡◌, sym, ap, ◌∙◌}
 use mathlib.Core.Bool.{Bool, true, false, not, ◌||◌}
 use mathlib.Core.List.{List, [], ◌∷◌}
@@ -12,15 +12,11 @@ use Rattle.base.specs.Buffers.{written}
 use Rattle.base.proofs.Buffers.{one_set}
 use Rattle.refusals.specs.declared.Refusal.{Refusal}
 use Rattle.refusals.specs.declared.Refusal.TheVariants.{Multiple, PooledCell, Buffer}
-use Rattle.refusals.specs.declared.Answer.{Answer}
-use Rattle.refusals.specs.declared.Answer.TheVariants as answer
 use Rattle.refusals.specs.Due.{refuse, due, Answers}
 use Rattle.refusals.proofs.Dues.{due_first, due_second, refused_so, accepted_so}
 use Rattle.table.specs.Check.{cells_within}
 use Rattle.multiples.specs.Multiple.{least_multiple}
 use Rattle.pool.specs.declared.check.Pair.{Pair}
-use Rattle.pool.specs.declared.check.Parts.{Parts}
-use Rattle.pool.specs.declared.check.Parts.TheVariants.{Accepted, Refused}
 use Rattle.pool.specs.declared.Scale.{Scale}
 use Rattle.pool.specs.Pool.{pooled_cells, parts_tests, pooling_tests, pooling_refusal, pool_refusal, Lent, lent, pooled_into}
 use Rattle.pool.specs.Clauses.{parts_answer, Denominators, scale_of, Scaled, Writable}
@@ -34,10 +30,10 @@ multiple_narrow m h = omega (arith, ltb-false 65535 m h)
 
 -- the call's answer, by what is due
 module _ (r c d : ℕ) (g : List ℕ) (e : ℕ) (h numbers cells : List ℕ) where
-  abbrev Says : Answer → Lent → Type 0
+  abbrev Says : Result ⊤ Refusal → Lent → Type 0
   Says a new = Answers (pool_refusal r c d g e h (length numbers) (length cells)) (pooled_into d g e h (lent numbers cells)) (lent numbers cells) a new
 
-  refused_by : {x : Refusal} → pooling_refusal r c d g e h ≡ Some x → Says (answer.Refused x) (lent numbers cells)
+  refused_by : {x : Refusal} → pooling_refusal r c d g e h ≡ Some x → Says (Err x) (lent numbers cells)
   unfolding pool_refusal pooling_refusal
   refused_by {x} q = refused_so (due_first (pooling_tests r c d g e h) _ x q)
 
@@ -47,24 +43,24 @@ module _ (r c d : ℕ) (g : List ℕ) (e : ℕ) (h numbers cells : List ℕ) whe
     unfolding pool_refusal pooling_refusal
     buffer_by = due_second (pooling_tests r c d g e h) _ free
 
-    short_numbers : length numbers < 1 → Says (answer.Refused Buffer) (lent numbers cells)
+    short_numbers : length numbers < 1 → Says (Err Buffer) (lent numbers cells)
     unfolding due
     short_numbers l = refused_so (buffer_by ∙ simp (lt-ltb (length numbers) 1 l))
 
     module _ (Some : 1 ≤ length numbers) where
-      short_cells : length cells < r * c → Says (answer.Refused Buffer) (lent numbers cells)
+      short_cells : length cells < r * c → Says (Err Buffer) (lent numbers cells)
       unfolding due
       short_cells l = refused_so (buffer_by ∙ simp (le-ltb (length numbers) 1 Some, lt-ltb (length cells) (r * c) l))
 
       both_written : {x : ℕ} {new : List ℕ} → r * c ≤ length cells → x ≡ least_multiple d e → new ≡ written (pooled_cells d g e h) cells
-          → Says answer.Done (lent (set numbers 0 x) new)
+          → Says Ok tt (lent (set numbers 0 x) new)
       unfolding due
       both_written {x} {new} l p q =
           accepted_so (buffer_by ∙ simp (le-ltb (length numbers) 1 Some, le-ltb (length cells) (r * c) l))
           (let a : set numbers 0 x ≡ written (least_multiple d e ∷ []) numbers = one_set numbers x Some ∙ ap (λ (y : ℕ). written (y ∷ []) numbers) p in cc)
 
 -- what the code knows of two parts that were accepted, of their scale and of their pooled cells
-module _ (r c d : ℕ) (g : List ℕ) (e : ℕ) (h : List ℕ) {k : Parts} (is : k ≡ parts_answer r c d g e h) {p : Pair} (q : k ≡ Accepted p) where
+module _ (r c d : ℕ) (g : List ℕ) (e : ℕ) (h : List ℕ) {k : Result Pair Refusal} (is : k ≡ parts_answer r c d g e h) {p : Pair} (q : k ≡ Ok p) where
   told : PairTaken r c d g e h is p
   told = parts_taken r c d g e h is q
 
@@ -116,32 +112,32 @@ module _ (r c d : ℕ) (g : List ℕ) (e : ℕ) (h : List ℕ) {k : Parts} (is :
         }
 
 -- the ways through the call
-module _ (r c d : ℕ) (g : List ℕ) (e : ℕ) (h numbers cells : List ℕ) {k : Parts} (is : k ≡ parts_answer r c d g e h) where
-  pub parts_stop : {x : Refusal} → k ≡ Refused x → Says r c d g e h numbers cells (answer.Refused x) (lent numbers cells)
+module _ (r c d : ℕ) (g : List ℕ) (e : ℕ) (h numbers cells : List ℕ) {k : Result Pair Refusal} (is : k ≡ parts_answer r c d g e h) where
+  pub parts_stop : {x : Refusal} → k ≡ Err x → Says r c d g e h numbers cells (Err x) (lent numbers cells)
   unfolding pooling_refusal
   parts_stop {x} q = refused_by r c d g e h numbers cells (due_first (parts_tests r c d g e h) _ x (parts_refused r c d g e h is q))
 
-  module _ {p : Pair} (q : k ≡ Accepted p) {s : Scale} (z : s ≡ scale_of p.cells p.first p.second) where
-    pub multiple_stops : ltb 65535 s.denominator ≡ true → Says r c d g e h numbers cells (answer.Refused Multiple) (lent numbers cells)
+  module _ {p : Pair} (q : k ≡ Ok p) {s : Scale} (z : s ≡ scale_of p.cells p.first p.second) where
+    pub multiple_stops : ltb 65535 s.denominator ≡ true → Says r c d g e h numbers cells (Err Multiple) (lent numbers cells)
     multiple_stops l = refused_by r c d g e h numbers cells (multiple_above r c d g e h is q z l)
 
     module _ (not-above : ltb 65535 s.denominator ≡ false) {b : Bool} (w : b ≡ cells_within s.denominator (cells_of s g h)) where
-      pub cell_stops : not b ≡ true → Says r c d g e h numbers cells (answer.Refused PooledCell) (lent numbers cells)
+      pub cell_stops : not b ≡ true → Says r c d g e h numbers cells (Err PooledCell) (lent numbers cells)
       cell_stops n = refused_by r c d g e h numbers cells (cell_above r c d g e h is q z not-above w n)
 
       module _ (n : not b ≡ false) where
         free : pooling_refusal r c d g e h ≡ None
         free = none_above r c d g e h is q z not-above w n
 
-        pub numbers_stop : length numbers < 1 → Says r c d g e h numbers cells (answer.Refused Buffer) (lent numbers cells)
+        pub numbers_stop : length numbers < 1 → Says r c d g e h numbers cells (Err Buffer) (lent numbers cells)
         numbers_stop l = short_numbers r c d g e h numbers cells free l
 
         module _ (Some : 1 ≤ length numbers) where
-          pub cells_stop : length cells < s.cells → Says r c d g e h numbers cells (answer.Refused Buffer) (lent numbers cells)
+          pub cells_stop : length cells < s.cells → Says r c d g e h numbers cells (Err Buffer) (lent numbers cells)
           cells_stop l = short_cells r c d g e h numbers cells free Some (rw (scale_is r c d g e h is q z) at l)
 
           pub pooled : {x : ℕ} {new : List ℕ} → s.cells ≤ length cells → x ≡ s.denominator → new ≡ written (cells_of s g h) cells
-              → Says r c d g e h numbers cells answer.Done (lent (set numbers 0 x) new)
+              → Says r c d g e h numbers cells Ok tt (lent (set numbers 0 x) new)
           unfolding pooled_cells
           pooled room a v =
               let i = scale_is r c d g e h is q z in

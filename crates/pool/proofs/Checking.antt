@@ -1,5 +1,5 @@
 -- What the check of two parts says, and the ways through it. Assumes nothing.
-use Rattle.std.specs.Prelude.{Option, Some, None}
+use Rattle.std.specs.Prelude.{Option, Some, None, Result, Ok, Err}
 use mathlib.Core.Path.{◌≡◌, refl, sym, ap, ap₂, ◌∙◌}
 use mathlib.Core.List.{List}
 use mathlib.Core.Logic.{⊎_elim}
@@ -17,19 +17,15 @@ use Rattle.refusals.proofs.Eithers.{Alike, no_rows, row, lower_due, either_due}
 use Rattle.table.specs.Clauses.{IsTable, check_of}
 use Rattle.table.specs.Check.{table_tests, table_refusal, BelowZero}
 use Rattle.table.specs.declared.Table.{Table}
-use Rattle.table.specs.declared.Checked.{Checked}
-use Rattle.table.specs.declared.Checked.TheVariants as checked
 use Rattle.table.proofs.Checks.{passed_all, below_zero, four_or_none}
 use Rattle.table.proofs.Tables.{taken, not_taken}
 use Rattle.table.proofs.Totals.{small_product}
 use Rattle.pool.specs.declared.check.Pair.{Pair}
-use Rattle.pool.specs.declared.check.Parts.{Parts}
-use Rattle.pool.specs.declared.check.Parts.TheVariants.{Accepted, Refused}
 use Rattle.pool.specs.Pool.{parts_tests, pooling_refusal, EitherBelowZero}
 use Rattle.pool.specs.Clauses.{parts_answer}
 
 -- the number of an accepted table's cells fits
-pub product_fits : (r c d : ℕ) (g : List ℕ) {k : Checked} {t : Table} → k ≡ check_of r c d g → k ≡ checked.Accepted t → Fits w64 (t.rows * t.columns)
+pub product_fits : (r c d : ℕ) (g : List ℕ) {k : Result Table Refusal} {t : Table} → k ≡ check_of r c d g → k ≡ Ok t → Fits w64 (t.rows * t.columns)
 product_fits r c d g {t = t} e h =
     let s = (taken r c d g e t h).table.shape in
     rw (taken r c d g e t h).sizes (small_product s.rows s.columns)
@@ -72,37 +68,37 @@ module _ (r c d : ℕ) (g : List ℕ) (e : ℕ) (h : List ℕ) where
           (four_or_none r c d g z.first_sizes)
 
   -- the ways through the check
-  module _ {one other : Checked} (p : one ≡ check_of r c d g) (q : other ≡ check_of r c e h) where
+  module _ {one other : Result Table Refusal} (p : one ≡ check_of r c d g) (q : other ≡ check_of r c e h) where
     answered : (o : Option Refusal) → due (parts_tests r c d g e h) ≡ o
-        → refused_or Refused (Accepted (record { cells = r * c; first = d; second = e })) o ≡ parts_answer r c d g e h
+        → refused_or Err (Ok (record { cells = r * c; first = d; second = e })) o ≡ parts_answer r c d g e h
     unfolding parts_answer
     answered o w = rw w refl
 
-    pub both_refused : {x y z : Refusal} → one ≡ checked.Refused x → other ≡ checked.Refused y → z ≡ lower_of x y → Refused z ≡ parts_answer r c d g e h
+    pub both_refused : {x y z : Refusal} → one ≡ Err x → other ≡ Err y → z ≡ lower_of x y → Err z ≡ parts_answer r c d g e h
     both_refused {x} {y} {z} a b s =
-        ap Refused s ∙ answered (Some (lower_of x y)) (parts_due ∙ rw (not_taken r c d g p x a, not_taken r c e h q y b) refl)
+        ap Err s ∙ answered (Some (lower_of x y)) (parts_due ∙ rw (not_taken r c d g p x a, not_taken r c e h q y b) refl)
 
-    pub first_refused : {x : Refusal} {u : Table} → one ≡ checked.Refused x → other ≡ checked.Accepted u → Refused x ≡ parts_answer r c d g e h
+    pub first_refused : {x : Refusal} {u : Table} → one ≡ Err x → other ≡ Ok u → Err x ≡ parts_answer r c d g e h
     first_refused {x} {u} a b = answered (Some x) (parts_due ∙ rw (not_taken r c d g p x a, (taken r c e h q u b).nothing_due) refl)
 
-    module _ {t : Table} (a : one ≡ checked.Accepted t) where
-      pub second_refused : {y : Refusal} → other ≡ checked.Refused y → Refused y ≡ parts_answer r c d g e h
+    module _ {t : Table} (a : one ≡ Ok t) where
+      pub second_refused : {y : Refusal} → other ≡ Err y → Err y ≡ parts_answer r c d g e h
       second_refused {y} b = answered (Some y) (parts_due ∙ rw ((taken r c d g p t a).nothing_due, not_taken r c e h q y b) refl)
 
-      pub both_accepted : {u : Table} → other ≡ checked.Accepted u
-          → Accepted (record { cells = t.rows * t.columns; first = t.denominator; second = u.denominator }) ≡ parts_answer r c d g e h
+      pub both_accepted : {u : Table} → other ≡ Ok u
+          → Ok (record { cells = t.rows * t.columns; first = t.denominator; second = u.denominator }) ≡ parts_answer r c d g e h
       both_accepted {u} b =
           rw ((taken r c d g p t a).sizes, (taken r c e h q u b).sizes)
           (answered None (parts_due ∙ rw ((taken r c d g p t a).nothing_due, (taken r c e h q u b).nothing_due) refl))
 
 -- what the answer says
-module _ (r c d : ℕ) (g : List ℕ) (e : ℕ) (h : List ℕ) {k : Parts} (is : k ≡ parts_answer r c d g e h) where
-  pub parts_refused : {x : Refusal} → k ≡ Refused x → due (parts_tests r c d g e h) ≡ Some x
+module _ (r c d : ℕ) (g : List ℕ) (e : ℕ) (h : List ℕ) {k : Result Pair Refusal} (is : k ≡ parts_answer r c d g e h) where
+  pub parts_refused : {x : Refusal} → k ≡ Err x → due (parts_tests r c d g e h) ≡ Some x
   unfolding parts_answer
   parts_refused {x} w = go (due (parts_tests r c d g e h)) refl (sym w ∙ is)
     where
       go : (o : Option Refusal) → due (parts_tests r c d g e h) ≡ o
-          → Refused x ≡ refused_or Refused (Accepted (record { cells = r * c; first = d; second = e })) o → due (parts_tests r c d g e h) ≡ Some x
+          → Err x ≡ refused_or Err (Ok (record { cells = r * c; first = d; second = e })) o → due (parts_tests r c d g e h) ≡ Some x
       go None a b = absurd (let z : ◌≡◌ {A = ℕ} 0 1 = cc in omega arith)
       go (Some y) a b = a ∙ cc
 
@@ -111,11 +107,11 @@ module _ (r c d : ℕ) (g : List ℕ) (e : ℕ) (h : List ℕ) {k : Parts} (is :
     pub nothing_due : due (parts_tests r c d g e h) ≡ None
     pub sizes : p ≡ record { cells = r * c; first = d; second = e }
 
-  pub parts_taken : {p : Pair} → k ≡ Accepted p → PairTaken p
+  pub parts_taken : {p : Pair} → k ≡ Ok p → PairTaken p
   unfolding parts_answer
   parts_taken {p} w = go (due (parts_tests r c d g e h)) refl (sym w ∙ is)
     where
       go : (o : Option Refusal) → due (parts_tests r c d g e h) ≡ o
-          → Accepted p ≡ refused_or Refused (Accepted (record { cells = r * c; first = d; second = e })) o → PairTaken p
+          → Ok p ≡ refused_or Err (Ok (record { cells = r * c; first = d; second = e })) o → PairTaken p
       go None a b = record { nothing_due = a; sizes = cc }
       go (Some y) a b = absurd (let z : ◌≡◌ {A = ℕ} 0 1 = cc in omega arith)

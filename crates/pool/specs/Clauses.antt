@@ -1,17 +1,17 @@
 -- What the functions of this crate require of and promise to each other. Assumes nothing.
-use Rattle.std.specs.Prelude.{◌≡◌, true, List, ℕ, ◌*◌, ◌/◌, ◌≤◌, length}
+use Rattle.std.specs.Prelude.{◌≡◌, true, List, ℕ, ◌*◌, ◌/◌, ◌≤◌, length, Result, Ok, Err}
 use Rattle.refusals.specs.Due.{due, refused_or}
 use Rattle.table.specs.Table.{max_denominator}
 use Rattle.table.specs.Check.{cells_within}
 use Rattle.multiples.specs.Multiple.{least_multiple}
-use Rattle.pool.specs.declared.check.Parts.{Parts}
-use Rattle.pool.specs.declared.check.Parts.TheVariants.{Accepted, Refused}
 use Rattle.pool.specs.declared.Scale.{Scale}
 use Rattle.pool.specs.Pool.{scaled_cells, parts_tests}
+use Rattle.pool.specs.declared.check.Pair.{Pair}
+use Rattle.refusals.specs.declared.Refusal.{Refusal}
 
 -- what the check of two parts answers: their number of cells and their denominators, or what is due
-unfoldable pub parts_answer : ℕ → ℕ → ℕ → List ℕ → ℕ → List ℕ → Parts
-parts_answer r c d g e h = refused_or Refused (Accepted (record { cells = r * c; first = d; second = e })) (due (parts_tests r c d g e h))
+unfoldable pub parts_answer : ℕ → ℕ → ℕ → List ℕ → ℕ → List ℕ → Result Pair Refusal
+parts_answer r c d g e h = refused_or Err (Ok (record { cells = r * c; first = d; second = e })) (due (parts_tests r c d g e h))
 
 -- two denominators within the bounds
 pub record Denominators (d e : ℕ) : Type 0 where

@@ -1,5 +1,5 @@
 -- The ways through the call that writes a reason. Assumes nothing.
-use Rattle.std.specs.Prelude.{Option, Some, None}
+use Rattle.std.specs.Prelude.{Option, Some, None, Result, Ok, Err, ⊤}
 use mathlib.Core.Path.{◌≡◌, refl, sym, ap, ◌∙◌}
 use mathlib.Core.Bool.{Bool, true, false, cond}
 use mathlib.Core.List.{List, [], ◌∷◌, ◌++◌}
@@ -11,8 +11,6 @@ use borrow.Author.Tests.{lt-ltb, le-ltb}
 use Rattle.base.specs.Buffers.{written}
 use Rattle.refusals.specs.declared.Refusal.{Refusal}
 use Rattle.refusals.specs.declared.Refusal.TheVariants.{Buffer}
-use Rattle.refusals.specs.declared.Answer.{Answer}
-use Rattle.refusals.specs.declared.Answer.TheVariants as answer
 use Rattle.refusals.specs.Answer.{answer_number}
 use Rattle.refusals.specs.Due.{due, refused_or, answer_of, Answers}
 use Rattle.refusals.proofs.Dues.{due_first, due_second, refused_so, accepted_so}
@@ -34,20 +32,20 @@ numbers_of entry e h direction reply w = rw h w
 
 -- the room for four numbers
 module _ (entry : Entry) (direction : ℕ) (reply : List ℕ) where
-  abbrev Writes : Answer → List ℕ → Type 0
+  abbrev Writes : Result ⊤ Refusal → List ℕ → Type 0
   Writes a new = Answers (room_refusal (length reply)) (written (entry_numbers entry ++ (direction ∷ [])) reply) reply a new
 
-  pub no_room : length reply < 4 → Writes (answer.Refused Buffer) reply
+  pub no_room : length reply < 4 → Writes (Err Buffer) reply
   unfolding room_refusal due
   no_room h = refused_so (simp (lt-ltb (length reply) 4 h))
 
-  pub room_written : {new : List ℕ} → 4 ≤ length reply → new ≡ written (entry_numbers entry ++ (direction ∷ [])) reply → Writes answer.Done new
+  pub room_written : {new : List ℕ} → 4 ≤ length reply → new ≡ written (entry_numbers entry ++ (direction ∷ [])) reply → Writes Ok tt new
   unfolding room_refusal due
   room_written h w = accepted_so (simp (le-ltb (length reply) 4 h)) w
 
 -- a reason, once asked for, and written
 module _ (r c d : ℕ) (g : List ℕ) (k : ℕ) (reply : List ℕ) {x : Reply} (is : x ≡ reason_answer r c d g k) where
-  abbrev Replies : Answer → List ℕ → Type 0
+  abbrev Replies : Result ⊤ Refusal → List ℕ → Type 0
   Replies a new = Answers (reply_refusal r c d g k (length reply)) (written (reason_numbers (reason_answer r c d g k)) reply) reply a new
 
   refusal_of : (o : Option Refusal) → reason_refusal r c d g k ≡ o → x ≡ refused_or Refused (reason_of r c (round_at r c d g k)) o
@@ -55,7 +53,7 @@ module _ (r c d : ℕ) (g : List ℕ) (k : ℕ) (reply : List ℕ) {x : Reply} (
   refusal_of o q = is ∙ ap (refused_or Refused (reason_of r c (round_at r c d g k))) q
 
   -- it is a refusal just if one is due
-  pub reply_refused : {y : Refusal} → x ≡ Refused y → Replies (answer.Refused y) reply
+  pub reply_refused : {y : Refusal} → x ≡ Refused y → Replies (Err y) reply
   unfolding reply_refusal reason_refusal
   reply_refused {y} h = refused_so (due_first (reason_tests r c d g k) (room_tests (length reply)) y (go (reason_refusal r c d g k) refl))
     where
@@ -72,14 +70,14 @@ module _ (r c d : ℕ) (g : List ℕ) (k : ℕ) (reply : List ℕ) {x : Reply} (
 
   -- else its numbers are written where there is room
   module _ {m : List ℕ} (n : (y : Refusal) → x ≡ Refused y → ⊥) (numbers : reason_numbers x ≡ m) where
-    replied : {a : Answer} {new : List ℕ} → Answers (room_refusal (length reply)) (written m reply) reply a new → Replies a new
+    replied : {a : Result ⊤ Refusal} {new : List ℕ} → Answers (room_refusal (length reply)) (written m reply) reply a new → Replies a new
     unfolding reply_refusal reason_refusal room_refusal
     replied {a} {new} h =
         let room : reply_refusal r c d g k (length reply) ≡ room_refusal (length reply) = due_second (reason_tests r c d g k) (room_tests (length reply)) (none_due n) in
         let same : reason_numbers (reason_answer r c d g k) ≡ m = ap reason_numbers (sym is) ∙ numbers in
         rw (room, same) h
 
-  module _ {e : Entry} {a : Answer} {new : List ℕ} where
+  module _ {e : Entry} {a : Result ⊤ Refusal} {new : List ℕ} where
     pub whole_replied : x ≡ AllWhole e → Answers (room_refusal (length reply)) (written (entry_numbers e ++ (0 ∷ [])) reply) reply a new → Replies a new
     whole_replied h = replied (λ y q. let z : ◌≡◌ {A = ℕ} 0 1 = cc in omega arith) (ap reason_numbers h)
 

@@ -1,4 +1,5 @@
 -- The ways through asking for a reason. Assumes nothing.
+use Rattle.std.specs.Prelude.{Result, Ok, Err}
 use mathlib.Core.Path.{◌≡◌, sym, ap}
 use mathlib.Core.List.{List}
 use Prim.Native.Nat.{ℕ}
@@ -6,8 +7,6 @@ use Rattle.refusals.specs.declared.Refusal.{Refusal}
 use Rattle.refusals.specs.Due.{refused_or}
 use Rattle.refusals.proofs.Dues.{due_first}
 use Rattle.table.specs.declared.Table.{Table}
-use Rattle.table.specs.declared.Checked.{Checked}
-use Rattle.table.specs.declared.Checked.TheVariants as checked
 use Rattle.table.specs.Clauses.{IsTable, check_of}
 use Rattle.table.specs.Check.{table_tests, table_refusal}
 use Rattle.table.proofs.Tables.{taken, not_taken}
@@ -16,12 +15,12 @@ use Rattle.reasons.specs.declared.Reply.TheVariants.{Refused}
 use Rattle.reasons.specs.Reason.{reason_of}
 use Rattle.reasons.specs.Call.{round_at, reason_refusal, reason_answer}
 
-module _ (r c d : ℕ) (g : List ℕ) {k : Checked} (e : k ≡ check_of r c d g) where
-  pub table_refused : (array : ℕ) {x : Refusal} → k ≡ checked.Refused x → Refused x ≡ reason_answer r c d g array
+module _ (r c d : ℕ) (g : List ℕ) {k : Result Table Refusal} (e : k ≡ check_of r c d g) where
+  pub table_refused : (array : ℕ) {x : Refusal} → k ≡ Err x → Refused x ≡ reason_answer r c d g array
   unfolding reason_answer reason_refusal table_refusal
   table_refused array {x} h = sym (ap (refused_or Refused (reason_of r c (round_at r c d g array))) (due_first (table_tests r c d g) _ x (not_taken r c d g e x h)))
 
-  module _ {t : Table} (h : k ≡ checked.Accepted t) where
+  module _ {t : Table} (h : k ≡ Ok t) where
     pub is_table : IsTable t.rows t.columns t.denominator g
     is_table = let u = taken r c d g e t h in rw u.sizes u.table
 

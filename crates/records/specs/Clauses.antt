@@ -1,12 +1,11 @@
 -- What the functions that test a record require, and the parts of the definitions of Record that they are held to. Assumes nothing.
-use Rattle.std.specs.Prelude.{◌≡◌, List, Bool, ℕ, ◌+◌, ◌*◌, ◌<◌, ◌≤◌, length, get_or, replicate, eqb}
+use Rattle.std.specs.Prelude.{◌≡◌, List, Bool, ℕ, ◌+◌, ◌*◌, ◌<◌, ◌≤◌, length, get_or, replicate, eqb, Ok}
 use Rattle.base.specs.Lists.{tabulate, every}
 use Rattle.base.specs.Buffers.{written}
 use Rattle.table.specs.Table.{max_cells, max_arrays, max_denominator}
 use Rattle.form.specs.declared.Sizes.{Sizes}
 use Rattle.weighted_arrays.specs.Plan.{Weighted, Plan, array_at, cell_count, weights_before}
 use Rattle.form.specs.Form.{decode}
-use Rattle.opening.specs.declared.Opened.TheVariants as opened
 use Rattle.opening.specs.Open.{open_answer}
 use Rattle.weighted_arrays.specs.Clauses.{max_product, Addable, weight_at, factored, SumsTo}
 use Rattle.reading.specs.Clauses.{Sized}
@@ -44,7 +43,7 @@ ArraysAdded b taken sums = SumsTo (λ j. get_or taken j 0) (decode b).arrays (ce
 
 -- an opened plan, with its sizes, and buffers not shorter than a record of it
 pub record Fitted (s : Sizes) (b bits tally : List ℕ) : Type 0 where
-  pub is_open : open_answer b ≡ opened.Plan s
+  pub is_open : open_answer b ≡ Ok s
   pub bits_room : bit_bytes s.denominator ≤ length bits
   pub tally_room : s.rows * s.columns ≤ length tally
 

@@ -1,5 +1,5 @@
 -- Laws on the first refusal of a list that applies. Assumes nothing.
-use Rattle.std.specs.Prelude.{Option, Some, None}
+use Rattle.std.specs.Prelude.{Option, Some, None, Ok, Err}
 use mathlib.Core.Path.{◌≡◌, refl, sym, ap, ◌∙◌}
 use mathlib.Core.Bool.{Bool, true, false, not}
 use mathlib.Core.List.{List, [], ◌∷◌, ◌++◌}
@@ -8,7 +8,6 @@ use native.Mathlib.Omega.{arith}
 use Rattle.base.specs.Lists.{all}
 use Rattle.base.proofs.Lists.{and_left, and_right, and_both}
 use Rattle.refusals.specs.declared.Refusal.{Refusal}
-use Rattle.refusals.specs.declared.Answer.TheVariants.{Done, Refused}
 use Rattle.refusals.specs.Due.{Test, due, none_applies, FirstDue, answer_of, after, Answers}
 
 -- the first row
@@ -83,10 +82,10 @@ first_due (t ∷ l) x h = go t.applies refl (first_due l x)
 
 -- a call that is refused answers with what is due and leaves what stood there; one that is accepted leaves what it wrote
 module _ {ℓ} {A : Type ℓ} {o : Option Refusal} {new old : A} where
-  pub refused_so : {x : Refusal} → o ≡ Some x → Answers o new old (Refused x) old
+  pub refused_so : {x : Refusal} → o ≡ Some x → Answers o new old (Err x) old
   unfolding answer_of after
   refused_so h = record { answer = rw h; left = rw h }
 
-  pub accepted_so : {result : A} → o ≡ None → result ≡ new → Answers o new old Done result
+  pub accepted_so : {result : A} → o ≡ None → result ≡ new → Answers o new old (Ok tt) result
   unfolding answer_of after
   accepted_so h e = record { answer = rw h; left = rw h e }

@@ -1,9 +1,7 @@
 -- Which refusal a call returns: the first of its list that applies (specification, "Refusals"). Assumes nothing.
-use Rattle.std.specs.Prelude.{◌≡◌, Bool, true, false, not, List, [], ◌∷◌, ◌++◌, Option, Some, None}
+use Rattle.std.specs.Prelude.{◌≡◌, Bool, true, false, not, List, [], ◌∷◌, ◌++◌, Option, Some, None, Result, Ok, Err, ⊤}
 use Rattle.base.specs.Lists.{all}
 use Rattle.refusals.specs.declared.Refusal.{Refusal}
-use Rattle.refusals.specs.declared.Answer.{Answer}
-use Rattle.refusals.specs.declared.Answer.TheVariants.{Done, Refused}
 
 -- a row of a call's list: whether its condition holds, and the refusal that it stands for
 pub record Test : Type 0 where
@@ -38,14 +36,14 @@ refused_or refused accepted None = accepted
 refused_or refused accepted (Some x) = refused x
 
 -- the answer of a call that returns nothing but its success
-unfoldable pub answer_of : Option Refusal → Answer
-answer_of x = refused_or Refused Done x
+unfoldable pub answer_of : Option Refusal → Result ⊤ Refusal
+answer_of x = refused_or Err (Ok tt) x
 
 -- a refusal changes nothing: what a call leaves, of what it would write and of what stood there before
 unfoldable pub after {ℓ} : {A : Type ℓ} → Option Refusal → A → A → A
 after x new old = refused_or (λ _. old) new x
 
 -- what a call that returns nothing but its success is held to: its answer r is what is due, and what it leaves is `new`, or after a refusal `old`
-pub record Answers {ℓ} {A : Type ℓ} (o : Option Refusal) (new old : A) (r : Answer) (result : A) : Type ℓ where
+pub record Answers {ℓ} {A : Type ℓ} (o : Option Refusal) (new old : A) (r : Result ⊤ Refusal) (result : A) : Type ℓ where
   pub answer : r ≡ answer_of o
   pub left : result ≡ after o new old

@@ -1,5 +1,5 @@
 -- From an accepted table to the buffer that its rounding is written to. Assumes nothing.
-use Rattle.std.specs.Prelude.{Some, None}
+use Rattle.std.specs.Prelude.{Some, None, Result, Ok, Err}
 use mathlib.Core.Path.{◌≡◌, ap, ◌∙◌}
 use mathlib.Core.Bool.{true}
 use mathlib.Core.List.{List}
@@ -14,8 +14,6 @@ use Rattle.base.specs.Buffers.{written}
 use Rattle.table.specs.declared.Table.{Table}
 use Rattle.refusals.specs.declared.Refusal.{Refusal}
 use Rattle.refusals.specs.declared.Refusal.TheVariants.{Buffer}
-use Rattle.table.specs.declared.Checked.{Checked}
-use Rattle.table.specs.declared.Checked.TheVariants as checked
 use Rattle.table.proofs.Sizes.{shape_of}
 use Rattle.table.proofs.Checks.{Taken}
 use Rattle.table.proofs.Tables.{taken, not_taken, refused_table, refused_buffer, refused_nothing}
@@ -55,12 +53,12 @@ module _ {r c d : ℕ} {g : List ℕ} (t : IsTable r c d g) where
         (ap (λ (l : List ℕ). tabulate (r * c) (grid_cell l c)) (o.is r c g t.shape is) ∙ cells_of_grid array_shape)
 
 -- the ways through the call
-module _ (r c d : ℕ) (g : List ℕ) (room : ℕ) {k : Checked} (e : k ≡ check_of r c d g) where
-  pub refused : {x : Refusal} → k ≡ checked.Refused x → round_refusal r c d g room ≡ Some x
+module _ (r c d : ℕ) (g : List ℕ) (room : ℕ) {k : Result Table Refusal} (e : k ≡ check_of r c d g) where
+  pub refused : {x : Refusal} → k ≡ Err x → round_refusal r c d g room ≡ Some x
   unfolding round_refusal
   refused h = refused_table r c d g room (r * c) _ (not_taken r c d g e _ h)
 
-  module _ {t : Table} (h : k ≡ checked.Accepted t) where
+  module _ {t : Table} (h : k ≡ Ok t) where
     told : Taken r c d g t
     told = taken r c d g e t h
 

@@ -1,5 +1,5 @@
 -- What the check of a table says on each way through its tests. Assumes nothing.
-use Rattle.std.specs.Prelude.{Option, Some, None}
+use Rattle.std.specs.Prelude.{Option, Some, None, Result, Ok, Err}
 use mathlib.Core.Path.{◌≡◌, refl, sym, ◌∙◌}
 use mathlib.Core.Bool.{Bool, true, false, not, ◌&&◌}
 use mathlib.Core.List.{List, [], ◌∷◌, ◌++◌}
@@ -19,8 +19,6 @@ use Rattle.table.specs.Check.{up_to, cells_within, size_within, denominator_with
 use Rattle.refusals.specs.declared.Refusal.TheVariants.{Size, Denominator, CellCount, LargeCell}
 use Rattle.table.specs.declared.Table.{Table}
 use Rattle.table.specs.Clauses.{IsTable, answered, sizes_of, check_of_cells, check_of}
-use Rattle.table.specs.declared.Checked.{Checked}
-use Rattle.table.specs.declared.Checked.TheVariants.{Accepted, Refused}
 use Rattle.table.proofs.Totals.{small_product}
 use Rattle.base.proofs.Lists.{all_intro, all_elim, all_fails, all_at_member, and_left, and_right}
 
@@ -78,7 +76,7 @@ module _ (b : Bool) {a x : Bool} (e : x ≡ a) where
 
 -- the ways through the check of the sizes
 module _ (r c d n : ℕ) (b : Bool) (be : b ≡ size_within r c) where
-  pub bad_size : not b ≡ true → Refused Size ≡ sizes_of r c d n
+  pub bad_size : not b ≡ true → Err Size ≡ sizes_of r c d n
   unfolding sizes_of due
   bad_size h = simp (sym be ∙ not-true b h)
 
@@ -86,7 +84,7 @@ module _ (r c d n : ℕ) (b : Bool) (be : b ≡ size_within r c) where
     size_good : size_within r c ≡ true
     size_good = sym be ∙ not-false b bh
 
-    pub bad_denominator : not y ≡ true → Refused Denominator ≡ sizes_of r c d n
+    pub bad_denominator : not y ≡ true → Err Denominator ≡ sizes_of r c d n
     unfolding sizes_of due
     bad_denominator h = simp (size_good, sym ye ∙ not-true y h)
 
@@ -94,11 +92,11 @@ module _ (r c d n : ℕ) (b : Bool) (be : b ≡ size_within r c) where
       denominator_good : denominator_within d ≡ true
       denominator_good = sym ye ∙ not-false y yh
 
-      pub bad_count : not z ≡ true → Refused CellCount ≡ sizes_of r c d n
+      pub bad_count : not z ≡ true → Err CellCount ≡ sizes_of r c d n
       unfolding sizes_of due
       bad_count h = simp (size_good, denominator_good, sym ze ∙ not-true z h)
 
-      pub good : not z ≡ false → Accepted (record { rows = r; columns = c; denominator = d }) ≡ sizes_of r c d n
+      pub good : not z ≡ false → Ok (record { rows = r; columns = c; denominator = d }) ≡ sizes_of r c d n
       unfolding sizes_of due
       good h = simp (size_good, denominator_good, sym ze ∙ not-false z h)
 
@@ -132,31 +130,31 @@ passed_sizes r c d n h =
 
 -- what an answer says of what is due
 module _ (r c d : ℕ) (o : Option Refusal) where
-  pub answered_refused : (x : Refusal) → Refused x ≡ answered r c d o → o ≡ Some x
+  pub answered_refused : (x : Refusal) → Err x ≡ answered r c d o → o ≡ Some x
   answered_refused x e = go o refl e
     where
-      go : (u : Option Refusal) → o ≡ u → Refused x ≡ answered r c d u → o ≡ Some x
+      go : (u : Option Refusal) → o ≡ u → Err x ≡ answered r c d u → o ≡ Some x
       go None p q = let z : ◌≡◌ {A = ℕ} 0 1 = cc in absurd (omega arith)
       go (Some y) p q = p ∙ cc
 
-  pub answered_nothing : (t : Table) → Accepted t ≡ answered r c d o → o ≡ None
+  pub answered_nothing : (t : Table) → Ok t ≡ answered r c d o → o ≡ None
   answered_nothing t e = go o refl e
     where
-      go : (u : Option Refusal) → o ≡ u → Accepted t ≡ answered r c d u → o ≡ None
+      go : (u : Option Refusal) → o ≡ u → Ok t ≡ answered r c d u → o ≡ None
       go None p q = p
       go (Some x) p q = let z : ◌≡◌ {A = ℕ} 0 1 = cc in absurd (omega arith)
 
-  pub answered_sizes : (t : Table) → Accepted t ≡ answered r c d o → t ≡ record { rows = r; columns = c; denominator = d }
-  answered_sizes t e = let n = answered_nothing t e in let f : Accepted t ≡ answered r c d None = rw n at e in cc
+  pub answered_sizes : (t : Table) → Ok t ≡ answered r c d o → t ≡ record { rows = r; columns = c; denominator = d }
+  answered_sizes t e = let n = answered_nothing t e in let f : Ok t ≡ answered r c d None = rw n at e in cc
 
 -- the ways through the check of n cells that are within their bounds or not, whatever kind of number a cell is
-module _ (r c d n : ℕ) {k : Checked} (e : k ≡ sizes_of r c d n) where
-  pub bad_sizes : (within : Bool) (x : Refusal) → k ≡ Refused x → Refused x ≡ check_of_cells r c d n within
+module _ (r c d n : ℕ) {k : Result Table Refusal} (e : k ≡ sizes_of r c d n) where
+  pub bad_sizes : (within : Bool) (x : Refusal) → k ≡ Err x → Err x ≡ check_of_cells r c d n within
   unfolding sizes_of check_of_cells
   bad_sizes within x h =
       rw (due_first (size_tests r c d n) (refuse LargeCell (not within) ∷ []) x (answered_refused r c d (due (size_tests r c d n)) x (sym h ∙ e))) refl
 
-  module _ {t : Table} (h : k ≡ Accepted t) where
+  module _ {t : Table} (h : k ≡ Ok t) where
     nothing : due (size_tests r c d n) ≡ None
     unfolding sizes_of
     nothing = answered_nothing r c d (due (size_tests r c d n)) t (sym h ∙ e)
@@ -169,11 +167,11 @@ module _ (r c d n : ℕ) {k : Checked} (e : k ≡ sizes_of r c d n) where
     sizes_are = answered_sizes r c d (due (size_tests r c d n)) t (sym h ∙ e)
 
     module _ {within : Bool} (z : Bool) (ze : z ≡ within) where
-      pub bad_cell : not z ≡ true → Refused LargeCell ≡ check_of_cells r c d n within
+      pub bad_cell : not z ≡ true → Err LargeCell ≡ check_of_cells r c d n within
       unfolding check_of_cells due
       bad_cell l = rw (due_second (size_tests r c d n) (refuse LargeCell (not within) ∷ []) nothing) (simp (sym ze ∙ not-true z l))
 
-      pub good_cells : not z ≡ false → Accepted t ≡ check_of_cells r c d n within
+      pub good_cells : not z ≡ false → Ok t ≡ check_of_cells r c d n within
       unfolding check_of_cells due
       good_cells l = rw (sizes_are, due_second (size_tests r c d n) (refuse LargeCell (not within) ∷ []) nothing) (simp (sym ze ∙ not-false z l))
 
@@ -204,13 +202,13 @@ module _ (r c d : ℕ) (g : List ℕ) where
     pub sizes : t ≡ record { rows = r; columns = c; denominator = d }
     pub nothing_due : table_refusal r c d g ≡ None
 
-  pub accepted : (t : Table) → Accepted t ≡ check_of r c d g → Taken t
+  pub accepted : (t : Table) → Ok t ≡ check_of r c d g → Taken t
   unfolding check_of check_of_cells table_refusal
   accepted t e =
       let nothing = answered_nothing r c d (table_refusal r c d g) t e in
       record { table = passed_all nothing; sizes = answered_sizes r c d (table_refusal r c d g) t e; nothing_due = nothing }
 
-  pub refused : (x : Refusal) → Refused x ≡ check_of r c d g → table_refusal r c d g ≡ Some x
+  pub refused : (x : Refusal) → Err x ≡ check_of r c d g → table_refusal r c d g ≡ Some x
   unfolding check_of check_of_cells table_refusal
   refused x e = answered_refused r c d (table_refusal r c d g) x e
 

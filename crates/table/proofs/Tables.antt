@@ -1,5 +1,5 @@
 -- An accepted table is refused nothing; and the calls that take a table and a lent buffer. Assumes nothing.
-use Rattle.std.specs.Prelude.{Some, None}
+use Rattle.std.specs.Prelude.{Some, None, Result, Ok, Err}
 use mathlib.Core.Path.{◌≡◌, sym, ◌∙◌}
 use mathlib.Core.Bool.{true}
 use mathlib.Core.List.{List, [], ◌∷◌, ◌++◌}
@@ -14,8 +14,6 @@ use Rattle.refusals.proofs.Dues.{due_first, due_second}
 use Rattle.table.specs.Check.{cells_within, table_tests, table_refusal}
 use Rattle.table.specs.Clauses.{IsTable, check_of}
 use Rattle.table.specs.declared.Table.{Table}
-use Rattle.table.specs.declared.Checked.{Checked}
-use Rattle.table.specs.declared.Checked.TheVariants as checked
 use Rattle.table.proofs.Checks.{inside, Taken, accepted, refused}
 
 pub table_accepted : {r c d : ℕ} {g : List ℕ} → IsTable r c d g → table_refusal r c d g ≡ None
@@ -34,11 +32,11 @@ table_accepted {r} {c} {d} {g} t =
     within = all_intro _ g 0 (λ k h. le-leb _ _ (t.within k h))
 
 -- what the answer of the check says
-module _ (r c d : ℕ) (g : List ℕ) {k : Checked} (e : k ≡ check_of r c d g) where
-  pub taken : (t : Table) → k ≡ checked.Accepted t → Taken r c d g t
+module _ (r c d : ℕ) (g : List ℕ) {k : Result Table Refusal} (e : k ≡ check_of r c d g) where
+  pub taken : (t : Table) → k ≡ Ok t → Taken r c d g t
   taken t h = accepted r c d g t (sym h ∙ e)
 
-  pub not_taken : (x : Refusal) → k ≡ checked.Refused x → table_refusal r c d g ≡ Some x
+  pub not_taken : (x : Refusal) → k ≡ Err x → table_refusal r c d g ≡ Some x
   not_taken x h = refused r c d g x (sym h ∙ e)
 
 -- the refusals of a call that takes a table and a buffer of `room`, and needs `need` of it

@@ -1,5 +1,5 @@
 -- What is printed of a plan, by what opening it answers. Assumes nothing.
-use Rattle.std.specs.Prelude.{Some}
+use Rattle.std.specs.Prelude.{Some, Result, Ok, Err}
 use mathlib.Core.Path.{◌≡◌, refl, sym, ap, ◌∙◌}
 use mathlib.Core.Bool.{true, false}
 use mathlib.Core.List.{List, ◌++◌}
@@ -9,8 +9,6 @@ use Rattle.refusals.specs.declared.Refusal.{Refusal}
 use Rattle.refusals.specs.Numbers.{number_of}
 use Rattle.form.specs.declared.Sizes.{Sizes}
 use Rattle.form.specs.Form.{decode}
-use Rattle.opening.specs.declared.Opened.{Opened}
-use Rattle.opening.specs.declared.Opened.TheVariants as opened
 use Rattle.opening.specs.Open.{open_refusal, Opens, open_answer}
 use Rattle.opening.proofs.Opening.{is_open, is_refused}
 use Rattle.variances.specs.declared.Numerators.{Numerators}
@@ -23,7 +21,7 @@ use Rattle.variance_text.specs.declared.Printed.{Printed}
 use Rattle.variance_text.specs.VarianceText.{rest_of_line, plan_text, goes_on}
 use Rattle.variance_text.specs.Write.{Prints}
 
-pub plan_answered : (b : List ℕ) (o : Opened) → o ≡ open_answer b → (s : Sizes) → o ≡ opened.Plan s → open_answer b ≡ opened.Plan s
+pub plan_answered : (b : List ℕ) (o : Result Sizes Refusal) → o ≡ open_answer b → (s : Sizes) → o ≡ Ok s → open_answer b ≡ Ok s
 plan_answered b o e s h = sym e ∙ h
 
 module _ (k : ℕ) (b : List ℕ) where
@@ -43,14 +41,14 @@ module _ (k : ℕ) (b : List ℕ) where
   unfolding goes_on
   on_refused x h = rw h refl
 
-  module _ (o : Opened) (e : o ≡ open_answer b) {out after : List ℕ} {r : ℕ} where
-    pub refusal_printed : (x : Refusal) → o ≡ opened.Refused x → Wrote out 0 (refused (number_of x)) after r
+  module _ (o : Result Sizes Refusal) (e : o ≡ open_answer b) {out after : List ℕ} {r : ℕ} where
+    pub refusal_printed : (x : Refusal) → o ≡ Err x → Wrote out 0 (refused (number_of x)) after r
         → Prints k b out after (record { written = r; go_on = false })
     refusal_printed x h w =
         let d = is_refused b x (sym e ∙ h) in
         record { wrote = rw (text_refused x d) at w; goes_on_is = on_refused x d }
 
-    pub line_printed : (s : Sizes) → o ≡ opened.Plan s → (n : Numerators) → Measured (decode b) n → Wrote out 0 (decimal k ++ rest_of_line (numerators_of n)) after r
+    pub line_printed : (s : Sizes) → o ≡ Ok s → (n : Numerators) → Measured (decode b) n → Wrote out 0 (decimal k ++ rest_of_line (numerators_of n)) after r
         → Prints k b out after (record { written = r; go_on = true })
     line_printed s h n m w =
         let d = (is_open b s (sym e ∙ h)).opens in

@@ -1,37 +1,34 @@
 -- What the call answers and writes, by the tests on its way. Assumes nothing.
+use Rattle.std.specs.Prelude.{Result, Ok, Err, ⊤}
 use mathlib.Core.Path.{◌≡◌, sym, ap, ◌∙◌}
 use mathlib.Core.List.{List, ◌++◌}
 use Prim.Native.Nat.{ℕ, ◌<◌, ◌≤◌}
 use lib.IntN.{ℤ}
 use lib.ListN.{length, drop}
-use Rattle.refusals.specs.declared.Answer.{Answer}
-use Rattle.refusals.specs.declared.Answer.TheVariants.{Done, Refused}
 use Rattle.refusals.specs.declared.Refusal.{Refusal}
 use Rattle.refusals.specs.declared.Refusal.TheVariants.{Buffer}
 use Rattle.refusals.specs.Due.{Answers}
 use Rattle.form.specs.declared.Sizes.{Sizes}
 use Rattle.form.specs.Form.{decode}
-use Rattle.opening.specs.declared.Opened.{Opened}
-use Rattle.opening.specs.declared.Opened.TheVariants as opened
 use Rattle.opening.specs.Open.{open_answer, part_refusal}
 use Rattle.plan_parts.proofs.Telling.{not_open, too_short, told}
 use Rattle.variances.specs.declared.Numerators.{Numerators}
 use Rattle.variances.specs.Variance.{numerators}
 use Rattle.variances.specs.Clauses.{numerators_of, Measured}
 
-module _ (b : List ℕ) (old : List ℤ) {o : Opened} (is : o ≡ open_answer b) where
-  abbrev Answered : Answer → List ℤ → Type 0
+module _ (b : List ℕ) (old : List ℤ) {o : Result Sizes Refusal} (is : o ≡ open_answer b) where
+  abbrev Answered : Result ⊤ Refusal → List ℤ → Type 0
   Answered r new = Answers (part_refusal b 3 (length old)) (numerators (decode b) ++ drop 3 old) old r new
 
-  pub variances_refused : {x : Refusal} → o ≡ opened.Refused x → Answered (Refused x) old
+  pub variances_refused : {x : Refusal} → o ≡ Err x → Answered (Err x) old
   variances_refused e = not_open b old 3 (length old) is e
 
-  module _ {s : Sizes} (e : o ≡ opened.Plan s) where
-    pub variances_open : open_answer b ≡ opened.Plan s
+  module _ {s : Sizes} (e : o ≡ Ok s) where
+    pub variances_open : open_answer b ≡ Ok s
     variances_open = sym is ∙ e
 
-    pub variances_short : length old < 3 → Answered (Refused Buffer) old
+    pub variances_short : length old < 3 → Answered (Err Buffer) old
     variances_short h = too_short b old 3 (length old) is e h
 
-    pub variances_told : 3 ≤ length old → {n : Numerators} {new : List ℤ} → Measured (decode b) n → new ≡ numerators_of n ++ drop 3 old → Answered Done new
+    pub variances_told : 3 ≤ length old → {n : Numerators} {new : List ℤ} → Measured (decode b) n → new ≡ numerators_of n ++ drop 3 old → Answered (Ok tt) new
     variances_told h m w = told b old 3 (length old) is e h (w ∙ ap (λ l. l ++ drop 3 old) m.is)

@@ -1,4 +1,5 @@
 -- The variance of a cell, the sum of all, and the three numerators of a plan. Assumes nothing.
+use Rattle.std.specs.Prelude.{Ok}
 use mathlib.Core.Path.{◌≡◌, refl, sym, ap, ap₂, ◌∙◌}
 use mathlib.Core.List.{List, [], ◌∷◌}
 use Prim.Native.Nat.{ℕ, zero, suc, ◌+◌, ◌-◌, ◌*◌, ◌%◌, ◌<◌, ◌≤◌}
@@ -24,7 +25,6 @@ use Rattle.reading.specs.Clauses.{Sized, HasTable}
 use Rattle.reading.proofs.Readings.{cells_length}
 use Rattle.reading.proofs.Sizing.{cells_are, denominator_is, sized_few, sized_some, sized_denominator, has_table}
 use Rattle.reading.proofs.Scratch.{scratch_room}
-use Rattle.opening.specs.declared.Opened.TheVariants as opened
 use Rattle.opening.specs.Open.{open_answer}
 use Rattle.opening.proofs.Opening.{opened_sized, sizes_product}
 use Rattle.covariances.specs.declared.Extremes.{Extremes}
@@ -79,7 +79,7 @@ sum_pos zero f = refl
 sum_pos (suc n) f = ap (λ z. pos (f 0) +ℤ z) (sum_pos n (λ i. f (suc i))) ∙ ap pos (sym (sum_front n f))
 
 -- a plan's numerators, from its table in a scratch
-module _ (s : Sizes) (b : List ℕ) (o : open_answer b ≡ opened.Plan s) where
+module _ (s : Sizes) (b : List ℕ) (o : open_answer b ≡ Ok s) where
   sized : Sized s b
   sized = opened_sized b s o
 

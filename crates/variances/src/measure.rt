@@ -1,8 +1,7 @@
 // The three numerators of a plan that opens.
-ghost use Rattle.std.specs.Prelude.{◌≡◌};
+ghost use Rattle.std.specs.Prelude.{◌≡◌, Ok};
 ghost use Rattle.base.specs.Clauses.{Widened};
 ghost use Rattle.form.specs.Form.{decode};
-ghost use Rattle.opening.specs.declared.Opened.TheVariants as opened;
 ghost use Rattle.opening.specs.Open.{open_answer};
 ghost use Rattle.variances.specs.Variance.{rounding_variance};
 ghost use Rattle.variances.specs.Clauses.{Measured, DenominatorWithin, SumReady, VariancesOf};
@@ -39,7 +38,7 @@ fn cell_variances(d: u32, cells: &[u32]) -> u64
 
 // The three numerators of a plan that opens.
 pub fn measure(plan: &[u8], s: Sizes) -> Numerators
-    requires { open_answer plan.now ≡ opened.Plan s }
+    requires { open_answer plan.now ≡ Ok s }
     ensures { Measured (decode plan.now) result }
 {
     let n = s.rows * s.columns;

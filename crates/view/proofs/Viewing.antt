@@ -1,4 +1,5 @@
 -- What the readers of a view say on each way through their tests, and of a plan that opens. Assumes nothing.
+use Rattle.std.specs.Prelude.{Option, Some, None}
 use mathlib.Core.Path.{◌≡◌, sym, ap, ◌∙◌}
 use mathlib.Core.Bool.{Bool, true, false, not, ◌&&◌, and-false}
 use mathlib.Core.List.{List}
@@ -13,8 +14,6 @@ use mir.Syntax.{w64}
 use borrow.Author.Tests.{le-leb, lt-ltb, le-ltb, leb-true, ltb-true, not-true, not-false}
 use Rattle.base.proofs.Lists.{get_d_tabulate, and_left, and_right, and_both}
 use Rattle.table.specs.Check.{up_to}
-use Rattle.view.specs.declared.find.Reading.{Reading}
-use Rattle.view.specs.declared.find.Reading.TheVariants.{Value, Missing}
 use Rattle.weighted_arrays.specs.Plan.{array_at}
 use Rattle.form.specs.Form.{rows_of, columns_of, arrays_of, amount_of, count_of, decode}
 use Rattle.view.specs.Find.{found_weight, found_count}
@@ -30,25 +29,25 @@ use Rattle.view.specs.View.{summary_of, has_cell, weight_answer, count_answer, R
 -- the tests of an array's number
 module _ (b : List ℕ) (s : Summary) (k : ℕ) where
   module _ (t : Bool) (e : t ≡ up_to s.arrays k) where
-    pub no_weight : not t ≡ true → Missing ≡ weight_answer b s k
+    pub no_weight : not t ≡ true → None ≡ weight_answer b s k
     unfolding weight_answer
     no_weight h = simp (sym e ∙ not-true t h)
 
-    pub no_array : (p q : ℕ) → not t ≡ true → Missing ≡ count_answer b s k p q
+    pub no_array : (p q : ℕ) → not t ≡ true → None ≡ count_answer b s k p q
     unfolding count_answer
     no_array p q h = simp (sym e ∙ not-true t h)
 
     module _ (h : not t ≡ false) where
-      pub weight_read : (x : Reading) → x ≡ found_weight b k → x ≡ weight_answer b s k
+      pub weight_read : (x : Option ℕ) → x ≡ found_weight b k → x ≡ weight_answer b s k
       unfolding weight_answer
       weight_read x q = q ∙ sym (simp (sym e ∙ not-false t h))
 
       module _ (p q : ℕ) (u : Bool) (ue : u ≡ has_cell s p q) where
-        pub no_cell : not u ≡ true → Missing ≡ count_answer b s k p q
+        pub no_cell : not u ≡ true → None ≡ count_answer b s k p q
         unfolding count_answer
         no_cell l = simp (sym ue ∙ not-true u l, sym e ∙ not-false t h)
 
-        pub count_read : not u ≡ false → (x : Reading) → x ≡ found_count b k (p * s.columns + q) → x ≡ count_answer b s k p q
+        pub count_read : not u ≡ false → (x : Option ℕ) → x ≡ found_count b k (p * s.columns + q) → x ≡ count_answer b s k p q
         unfolding count_answer
         count_read l x r = r ∙ sym (simp (sym e ∙ not-false t h, sym ue ∙ not-false u l))
 
@@ -102,7 +101,7 @@ module _ (b : List ℕ) (h : Opens b) where
     has : up_to (arrays_of b) k ≡ true
     has = and_both (le-leb 1 k some) (le-leb k (arrays_of b) last)
 
-    finds_weight : weight_answer b (summary_of (open_answer b)) k ≡ Value (array_at (decode b).arrays (k - 1)).weight
+    finds_weight : weight_answer b (summary_of (open_answer b)) k ≡ Some (array_at (decode b).arrays (k - 1)).weight
     unfolding weight_answer
     finds_weight =
         let is : (array_at (decode b).arrays (k - 1)).weight ≡ amount_of b k = decode_weight b (k - 1) there ∙ ap (amount_of b) from_zero in
@@ -115,7 +114,7 @@ module _ (b : List ℕ) (h : Opens b) where
       inside : place < rows_of b * columns_of b
       inside = digits_lt hp hq
 
-      finds_count : count_answer b (summary_of (open_answer b)) k p q ≡ Value (get_or (array_at (decode b).arrays (k - 1)).counts place 0)
+      finds_count : count_answer b (summary_of (open_answer b)) k p q ≡ Some (get_or (array_at (decode b).arrays (k - 1)).counts place 0)
       unfolding count_answer
       finds_count =
           let l = is_laid in

@@ -1,5 +1,5 @@
 -- The ways through the two calls. Assumes nothing.
-use Rattle.std.specs.Prelude.{Option, Some, None}
+use Rattle.std.specs.Prelude.{Option, Some, None, Result, Ok, Err, ⊤}
 use mathlib.Core.Path.{◌≡◌, refl, sym, ap, ◌∙◌}
 use mathlib.Core.Bool.{Bool, true, false, false≢true, not}
 use mathlib.Core.List.{List, [], ◌∷◌, ◌++◌}
@@ -11,14 +11,11 @@ use Rattle.base.specs.Buffers.{written}
 use Rattle.base.proofs.Lists.{and_left, and_right}
 use Rattle.refusals.specs.declared.Refusal.{Refusal}
 use Rattle.refusals.specs.declared.Refusal.TheVariants.{Size, LargeCell, Buffer, WalkSize, NotRounding}
-use Rattle.refusals.specs.declared.Answer.{Answer}
 use Rattle.refusals.specs.Due.{Test, refuse, due, after, Answers}
 use Rattle.refusals.proofs.Dues.{due_here, due_next, due_first, due_second, not_here, not_later}
 use Rattle.table.specs.Check.{size_within, table_refusal, cells_within, size_test, denominator_test, count_test, BelowZero}
 use Rattle.table.specs.Clauses.{IsTable, answered, check_of, check_of_cells}
 use Rattle.table.specs.declared.Table.{Table}
-use Rattle.table.specs.declared.Checked.{Checked}
-use Rattle.table.specs.declared.Checked.TheVariants as checked
 use Rattle.table.proofs.Checks.{answered_refused, answered_nothing, answered_sizes, passed_all, below_zero}
 use Rattle.is_rounding.specs.Rounding.{two_ways, is_rounding}
 use Rattle.first_rounding.specs.First.{first_rounding}
@@ -52,7 +49,7 @@ module _ (r c d : ℕ) (g : List ℕ) where
 
   -- the check, and the first call, in which the table's own follows
   module _ {b : Bool} (e : b ≡ size_within r c) where
-    pub bad_size : b ≡ false → checked.Refused Size ≡ walk_check r c d g
+    pub bad_size : b ≡ false → Err Size ≡ walk_check r c d g
     unfolding walk_check
     bad_size h = ap (answered r c d) (sym (size_due r c e h (walk_size_test r c ∷ later)))
 
@@ -61,11 +58,11 @@ module _ (r c d : ℕ) (g : List ℕ) where
     first_bad_size h room = size_due r c e h (walk_size_test r c ∷ (later ++ (room_test r c room ∷ [])))
 
     module _ (h : b ≡ true) {s : Bool} (f : s ≡ walk_within r c) where
-      pub too_large : s ≡ false → checked.Refused WalkSize ≡ walk_check r c d g
+      pub too_large : s ≡ false → Err WalkSize ≡ walk_check r c d g
       unfolding walk_check
       too_large i = ap (answered r c d) (sym (large_due r c e h f i later))
 
-      pub small_enough : s ≡ true → {k : Checked} → k ≡ check_of r c d g → k ≡ walk_check r c d g
+      pub small_enough : s ≡ true → {k : Result Table Refusal} → k ≡ check_of r c d g → k ≡ walk_check r c d g
       unfolding walk_check check_of check_of_cells
       small_enough i q = q ∙ ap (answered r c d) (sym (small_due r c e h f i later))
 
@@ -73,7 +70,7 @@ module _ (r c d : ℕ) (g : List ℕ) where
       unfolding first_refusal
       first_too_large i room = large_due r c e h f i (later ++ (room_test r c room ∷ []))
 
-      pub first_rounds : s ≡ true → {old new : List ℕ} {a : Answer}
+      pub first_rounds : s ≡ true → {old new : List ℕ} {a : Result ⊤ Refusal}
           → Answers (round_refusal r c d g (length old)) (written (first_rounding r c d g) old) old a new
           → Answers (first_refusal r c d g (length old)) (written (first_rounding r c d g) old) old a new
       unfolding first_refusal round_refusal
@@ -108,16 +105,16 @@ pub columns_decide : (r c : ℕ) → r ≤ 4 → leb c 4 ≡ walk_within r c
 columns_decide r c h = simp (le-leb r 4 h)
 
 -- what the check's answer says
-module _ (r c d : ℕ) (g : List ℕ) {k : Checked} (e : k ≡ walk_check r c d g) where
-  not_taken : {x : Refusal} → k ≡ checked.Refused x → due (walk_tests r c d g) ≡ Some x
+module _ (r c d : ℕ) (g : List ℕ) {k : Result Table Refusal} (e : k ≡ walk_check r c d g) where
+  not_taken : {x : Refusal} → k ≡ Err x → due (walk_tests r c d g) ≡ Some x
   unfolding walk_check
   not_taken {x} h = answered_refused r c d (due (walk_tests r c d g)) x (sym h ∙ e)
 
-  pub next_refused : (n : List ℕ) (room : ℕ) {x : Refusal} → k ≡ checked.Refused x → next_refusal r c d g n room ≡ Some x
+  pub next_refused : (n : List ℕ) (room : ℕ) {x : Refusal} → k ≡ Err x → next_refusal r c d g n room ≡ Some x
   unfolding next_refusal
   next_refused n room {x} h = due_first (walk_tests r c d g) (array_tests r c d g n room) x (not_taken h)
 
-  module _ {t : Table} (h : k ≡ checked.Accepted t) where
+  module _ {t : Table} (h : k ≡ Ok t) where
     nothing : due (walk_tests r c d g) ≡ None
     unfolding walk_check
     nothing = answered_nothing r c d (due (walk_tests r c d g)) t (sym h ∙ e)
