@@ -7,13 +7,7 @@ ghost use Rattle.records.specs.Record.{record_of};
 ghost use Rattle.campaign_start.specs.Start.{started, Starts};
 ghost use Rattle.campaign_draw.specs.Draw.{ask, made, Draws};
 
-// The part of a campaign record that is no buffer: the count of numbers taken, and the rounds completed.
-#[repr(C)]
-#[derive(Clone, Copy)]
-pub struct Record {
-    pub taken: u32,
-    pub rounds: u16,
-}
+use records::Record;
 
 // Starts a campaign: 0, or the refusal's number.
 #[unsafe(no_mangle)]
@@ -27,10 +21,8 @@ pub extern "C" fn lufodimi_start(
         (started plan.now (record_of «record».old.taken «record».old.rounds bits.old tally.old))
         result (record_of «record».new.taken «record».new.rounds bits.new tally.new) }
 {
-    let started = campaign_start::start(plan, record.taken, record.rounds, bits, tally);
-    record.taken = started.taken;
-    record.rounds = started.rounds;
-    refusals::answer_number(started.answer)
+    let started = campaign_start::start(plan, record, bits, tally);
+    refusals::answer_number(started)
 }
 
 // Takes a number in a campaign and writes its array: 0, or the refusal's number.
@@ -48,16 +40,6 @@ pub extern "C" fn lufodimi_campaign_draw(
         (ask number counts.old))
         result (record_of «record».new.taken «record».new.rounds bits.new tally.new) counts.new }
 {
-    let drawn = campaign_draw::draw(
-        plan,
-        number,
-        record.taken,
-        record.rounds,
-        bits,
-        tally,
-        counts,
-    );
-    record.taken = drawn.taken;
-    record.rounds = drawn.rounds;
-    refusals::answer_number(drawn.answer)
+    let drawn = campaign_draw::draw(plan, number, record, bits, tally, counts);
+    refusals::answer_number(drawn)
 }

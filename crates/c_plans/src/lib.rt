@@ -8,7 +8,7 @@ ghost use Rattle.refusals.specs.Due.{answer_of, after};
 ghost use Rattle.base.specs.Buffers.{written};
 ghost use Rattle.weighted_arrays.specs.Plan.{cell_count};
 ghost use Rattle.form.specs.Form.{decode};
-ghost use Rattle.opening.specs.Open.{open_answer, opened_number, part_refusal};
+ghost use Rattle.opening.specs.Open.{open_answer, part_refusal};
 ghost use Rattle.drawing.specs.Draw.{draw_refusal, drawn_array};
 ghost use Rattle.plan_parts.specs.Sizes.{size_numbers};
 ghost use Rattle.plan_parts.specs.Array.{buffers, array_refusal, array_into};
@@ -17,10 +17,10 @@ ghost use Rattle.variances.specs.Variance.{numerators};
 // Opens a stored plan: 0, or the refusal's number.
 #[unsafe(no_mangle)]
 pub extern "C" fn lufodimi_open(plan: &[u8]) -> u32
-    ensures { result ≡ opened_number (open_answer plan.now) }
+    ensures { result ≡ answer_number (open_answer plan.now) }
 {
     let opened = opening::open::open(plan);
-    opening::open::opened_number(opened)
+    refusals::answer_number(opened)
 }
 
 // Writes the array that belongs to a draw number: 0, or the refusal's number.

@@ -1,7 +1,7 @@
 -- What inner functions are held to. Assumes nothing.
-use Rattle.std.specs.Prelude.{◌≡◌, List, ℕ, ◌+◌, ◌*◌, ◌<◌, ◌≤◌, length, get_or, Ok}
+use Rattle.std.specs.Prelude.{◌≡◌, List, ℕ, ◌+◌, ◌*◌, ◌<◌, ◌≤◌, length, get_or}
 use Rattle.table.specs.Table.{max_denominator, max_expected}
-use Rattle.campaign_start.specs.declared.Step.{Step}
+use Rattle.records.specs.declared.Record.{Record}
 use Rattle.records.specs.Record.{record_of, max_rounds}
 use Rattle.bits.specs.Bits.{bit_bytes}
 use Rattle.campaign_draw.specs.Draw.{closed}
@@ -23,6 +23,6 @@ pub record Closable (denominator rounds : ℕ) (bits : List ℕ) : Type 0 where
   pub room : bit_bytes denominator ≤ length bits
 
 -- what is left, whatever the tally, of a record whose round is completed where no number is free
-pub record Closes (denominator taken rounds : ℕ) (bits : List ℕ) (r : Step) (bits' : List ℕ) : Type 0 where
-  pub answer : r.answer ≡ Ok tt
-  pub left : (tally : List ℕ) → record_of r.taken r.rounds bits' tally ≡ closed denominator (record_of taken rounds bits tally)
+abbrev pub Closes : ℕ → Record → List ℕ → Record → List ℕ → Type 0
+Closes denominator s bits s' bits' =
+    (tally : List ℕ) → record_of s'.taken s'.rounds bits' tally ≡ closed denominator (record_of s.taken s.rounds bits tally)

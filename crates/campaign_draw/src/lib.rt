@@ -11,15 +11,13 @@ ghost use Rattle.campaign_draw.specs.Clauses.{Addends};
 ghost use Rattle.campaign_draw.specs.Examples.{outcome_of, draws};
 
 use crate::round::close_round;
-use base::convert::u16_to_u64;
 use bits::{bit, set_bit};
-use campaign_start::Step;
 use campaign_start::room::open_for;
 use drawing::write_array;
-use opening::Opened;
-use records::MAX_ROUNDS;
+use form::Sizes;
+use records::{MAX_ROUNDS, Record};
 use records::fit::fits;
-use refusals::{Answer, Refusal};
+use refusals::Refusal;
 
 mod round;
 
@@ -27,39 +25,31 @@ mod round;
 fn draw_opened(
     plan: &[u8],
     number: u32,
-    taken: u32,
-    rounds: u16,
+    record: Record,
     bits: &[u8],
     tally: &[u64],
     room: usize,
-) -> Opened
+) -> Result<Sizes, Refusal>
     ensures { result ≡ sizes_or plan.now
-        (campaign_refusal plan.now number (record_of taken rounds bits.now tally.now) room) }
+        (campaign_refusal plan.now number (record_of «record».taken «record».rounds bits.now tally.now) room) }
 {
-    let opened = open_for(plan, bits, tally);
-    match opened {
-        Opened::Refused(x) => Opened::Refused(x),
-        Opened::Plan(s) => {
-            let denominator = s.denominator;
-            let cells = s.rows * s.columns;
-            if room < cells {
-                return Opened::Refused(Refusal::Buffer);
-            }
-            if denominator <= number {
-                return Opened::Refused(Refusal::Number);
-            }
-            if !fits(plan, s, taken, rounds, bits, tally) {
-                return Opened::Refused(Refusal::Record);
-            }
-            if MAX_ROUNDS <= rounds {
-                return Opened::Refused(Refusal::Rounds);
-            }
-            if bit(bits, number as usize) != 0 {
-                return Opened::Refused(Refusal::Taken);
-            }
-            Opened::Plan(s)
-        }
+    let s = open_for(plan, bits, tally)?;
+    if room < s.rows * s.columns {
+        return Err(Refusal::Buffer);
     }
+    if s.denominator <= number {
+        return Err(Refusal::Number);
+    }
+    if !fits(plan, s, record, bits, tally) {
+        return Err(Refusal::Record);
+    }
+    if MAX_ROUNDS <= record.rounds {
+        return Err(Refusal::Rounds);
+    }
+    if bit(bits, number as usize) != 0 {
+        return Err(Refusal::Taken);
+    }
+    Ok(s)
 }
 
 // Adds the first `cells` counts to the tally.
@@ -69,41 +59,30 @@ fn add_counts(counts: &[u16], cells: usize, tally: &mut [u64])
         ≡ written (tabulate cells (λ i. get_or tally.old i 0 + get_or counts.now i 0)) tally.old }
 {
     for i in 0..cells {
-        tally[i] = tally[i] + u16_to_u64(counts[i]);
+        tally[i] = tally[i] + u64::from(counts[i]);
     }
 }
 
-// Writes the array of a draw number and takes the number, or returns the first refusal that applies. Count and rounds are passed and returned by value.
+// Writes the array of a draw number and takes the number, or returns the first refusal that applies.
 pub fn draw(
     plan: &[u8],
     number: u32,
-    taken: u32,
-    rounds: u16,
+    record: &mut Record,
     bits: &mut [u8],
     tally: &mut [u64],
     counts: &mut [u16],
-) -> Step
+) -> Result<(), Refusal>
     ensures { Draws (λ a. a)
-        (made plan.now (record_of taken rounds bits.old tally.old) (ask number counts.old))
-        result.answer (record_of result.taken result.rounds bits.new tally.new) counts.new }
+        (made plan.now (record_of «record».old.taken «record».old.rounds bits.old tally.old) (ask number counts.old))
+        result (record_of «record».new.taken «record».new.rounds bits.new tally.new) counts.new }
 {
-    let opened = draw_opened(plan, number, taken, rounds, bits, tally, counts.len());
-    match opened {
-        Opened::Refused(x) => Step {
-            answer: Answer::Refused(x),
-            taken: taken,
-            rounds: rounds,
-        },
-        Opened::Plan(s) => {
-            let cells = s.rows * s.columns;
-            write_array(plan, s, number, counts);
-            add_counts(counts, cells, tally);
-            set_bit(bits, number as usize);
-            let denominator = s.denominator;
-            let count = taken + 1;
-            close_round(denominator, count, rounds, bits)
-        }
-    }
+    let s = draw_opened(plan, number, *record, bits, tally, counts.len())?;
+    write_array(plan, s, number, counts);
+    add_counts(counts, s.rows * s.columns, tally);
+    set_bit(bits, number as usize);
+    record.taken += 1;
+    close_round(s.denominator, record, bits);
+    Ok(())
 }
 
 // The literal cases are as stated: records of D 7, 8 and 9, buffers of just the needed length and of one less, the last draw of a round, of the first

@@ -6,11 +6,9 @@ ghost use Rattle.std.specs.Int.Signed.{le_z};
 ghost use Rattle.correction_check.specs.Check.{cell_within, cells_within};
 ghost use Rattle.correction_check.specs.Clauses.{Opposite, check_of};
 
-use base::convert::{i32_to_i64, u64_to_i64};
-use base::wide;
 use refusals::Refusal;
 use table::check::sizes;
-use table::{Checked, Table};
+use table::Table;
 
 // The opposite of a number.
 fn opposite(x: i64) -> i64
@@ -35,9 +33,9 @@ fn cell_within(cell: i32, bound: u64) -> bool
     requires { bound < 2 ^ 63 }
     ensures { result ≡ cell_within bound cell }
 {
-    let high = u64_to_i64(bound);
+    let high = bound as i64;
     let low = opposite(high);
-    between(i32_to_i64(cell), low, high)
+    between(i64::from(cell), low, high)
 }
 
 // Whether each cell is from -1000 to 1000 times the denominator.
@@ -45,7 +43,7 @@ fn cells_within(denominator: u32, cells: &[i32]) -> bool
     requires { denominator ≤ Table.MAX_DENOMINATOR }
     ensures { result ≡ cells_within denominator cells.now }
 {
-    let bound = wide(Table::MAX_EXPECTED * denominator);
+    let bound = u64::from(Table::MAX_EXPECTED * denominator);
     let mut i = 0;
     while i < cells.len() {
         let cell = cells[i];
@@ -58,17 +56,12 @@ fn cells_within(denominator: u32, cells: &[i32]) -> bool
 }
 
 // The sizes of a table of corrections, or the lowest refusal that applies.
-pub fn check(rows: u32, columns: u32, denominator: u32, cells: &[i32]) -> Checked
+pub fn check(rows: u32, columns: u32, denominator: u32, cells: &[i32]) -> Result<Table, Refusal>
     ensures { result ≡ check_of rows columns denominator cells.now }
 {
-    let sized = sizes(rows, columns, denominator, cells.len());
-    match sized {
-        Checked::Refused(x) => Checked::Refused(x),
-        Checked::Accepted(t) => {
-            if !cells_within(denominator, cells) {
-                return Checked::Refused(Refusal::LargeCell);
-            }
-            Checked::Accepted(t)
-        }
+    let t = sizes(rows, columns, denominator, cells.len())?;
+    if !cells_within(denominator, cells) {
+        return Err(Refusal::LargeCell);
     }
+    Ok(t)
 }

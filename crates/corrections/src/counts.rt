@@ -3,7 +3,6 @@ ghost use Rattle.std.specs.Prelude.{◌≡◌, ◌+ℤ◌};
 ghost use Rattle.base.specs.Buffers.{written};
 ghost use Rattle.corrections.specs.Clauses.{Summable, rests, RestsReady, count_of, counts_of, CountReady, CountsReady};
 
-use base::convert::{i32_to_i64, i64_to_i16, u16_to_u64, u64_to_i64, u64_to_u32};
 use division::divide;
 
 // What is left over of each cell.
@@ -13,8 +12,8 @@ pub fn remainders(cells: &[i32], denominator: u64, out: &mut [u32])
 {
     for k in 0..cells.len() {
         let cell = cells[k];
-        let d = divide(i32_to_i64(cell), denominator);
-        out[k] = u64_to_u32(d.rest);
+        let d = divide(i64::from(cell), denominator);
+        out[k] = d.rest as u32;
     }
 }
 
@@ -31,9 +30,9 @@ fn count(cell: i32, denominator: u64, first: u16) -> i16
     requires { CountReady denominator cell first }
     ensures { result ≡ count_of denominator cell first }
 {
-    let d = divide(i32_to_i64(cell), denominator);
-    let n = u64_to_i64(u16_to_u64(first));
-    i64_to_i16(sum(d.whole, n))
+    let d = divide(i64::from(cell), denominator);
+    let n = u64::from(first) as i64;
+    sum(d.whole, n) as i16
 }
 
 // The counts of all cells.

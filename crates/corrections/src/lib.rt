@@ -13,9 +13,9 @@ ghost use Rattle.corrections.specs.Clauses.{SheetReady};
 
 use crate::counts::{counts, remainders};
 use correction_check::check;
-use refusals::{Answer, Refusal};
+use refusals::Refusal;
 use rounding::write_rounding;
-use table::{Checked, Table};
+use table::Table;
 
 mod counts;
 
@@ -34,21 +34,16 @@ fn write_counts(t: Table, cells: &[i32], out: &mut [i16])
 }
 
 // Writes the first controlled rounding of a table of corrections, or returns the lowest refusal that applies.
-pub fn round(rows: u32, columns: u32, denominator: u32, cells: &[i32], out: &mut [i16]) -> Answer
+pub fn round(rows: u32, columns: u32, denominator: u32, cells: &[i32], out: &mut [i16]) -> Result<(), Refusal>
     ensures { Answers (round_refusal rows columns denominator cells.now (length out.old))
         (written (first_rounding rows columns denominator cells.now) out.old) out.old result out.new }
 {
-    let checked = check(rows, columns, denominator, cells);
-    match checked {
-        Checked::Refused(x) => Answer::Refused(x),
-        Checked::Accepted(t) => {
-            if out.len() < t.rows * t.columns {
-                return Answer::Refused(Refusal::Buffer);
-            }
-            write_counts(t, cells, out);
-            Answer::Done
-        }
+    let t = check(rows, columns, denominator, cells)?;
+    if out.len() < t.rows * t.columns {
+        return Err(Refusal::Buffer);
     }
+    write_counts(t, cells, out);
+    Ok(())
 }
 
 // Every accepted table of corrections has a controlled rounding, and what the call writes is the first of them. On a table without a cell below zero the whole

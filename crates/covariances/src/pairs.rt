@@ -7,7 +7,6 @@ ghost use Rattle.covariances.specs.Clauses.{lifted, Liftable, lifted_row, Extrem
 
 use crate::sums::{keep_counts, row_sums};
 use crate::{Extremes, LIFT};
-use base::wide;
 use form::Sizes;
 
 // A covariance, lifted: D times the weighted products, minus the product of the two cells.
@@ -15,7 +14,7 @@ fn lifted(d: u64, s: u64, x: u32, y: u32) -> u64
     requires { Liftable d s x y }
     ensures { result ≡ lifted d s x y }
 {
-    d * s + LIFT - wide(x) * wide(y)
+    d * s + LIFT - u64::from(x) * u64::from(y)
 }
 
 // The smaller of two numbers.
@@ -54,7 +53,7 @@ fn pairs_of(plan: &[u8], s: Sizes, cells: &[u32], counts: &[u16], a: usize, e: E
 {
     let mut sums = [0u64; 144];
     row_sums(plan, s, counts, a, &mut sums);
-    row_extremes(wide(s.denominator), cells, a, &sums, e)
+    row_extremes(u64::from(s.denominator), cells, a, &sums, e)
 }
 
 // The smallest and the largest of all pairs. It begins with what no pair is above and what none is below.

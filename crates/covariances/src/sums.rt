@@ -5,7 +5,6 @@ ghost use Rattle.form.specs.Form.{decode};
 ghost use Rattle.weighted_arrays.specs.Clauses.{SumsTo};
 ghost use Rattle.covariances.specs.Clauses.{KeepReady, Kept, RowReady, factors};
 
-use base::convert::u16_to_u32;
 use form::Sizes;
 use reading::{read_array, weight};
 use weighted_arrays::add_weighted;
@@ -27,7 +26,7 @@ pub fn row_sums(plan: &[u8], s: Sizes, counts: &[u16], a: usize, sums: &mut [u64
 {
     for k in 0..s.arrays {
         let at = 144 * k;
-        let factor = weight(plan, k) * u16_to_u32(counts[at + a]);
+        let factor = weight(plan, k) * u32::from(counts[at + a]);
         add_weighted(factor, &counts[at..at + a], sums);
     }
 }

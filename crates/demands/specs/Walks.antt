@@ -19,10 +19,10 @@ Begins r c d g n =
 
 -- the second call, handed n, writes k; and it says that n was the last, and writes nothing
 abbrev pub GoesOn : ℕ → ℕ → ℕ → List ℕ → List ℕ → List ℕ → Type 0
-GoesOn r c d g n k = (buffer : List ℕ) → r * c ≤ length buffer → (next_answer r c d g n (length buffer) ≡ Next) × (take (r * c) (next_left r c d g n buffer) ≡ k)
+GoesOn r c d g n k = (buffer : List ℕ) → r * c ≤ length buffer → (next_answer r c d g n (length buffer) ≡ Ok Next) × (take (r * c) (next_left r c d g n buffer) ≡ k)
 
 abbrev pub Ends : ℕ → ℕ → ℕ → List ℕ → List ℕ → Type 0
-Ends r c d g n = (buffer : List ℕ) → r * c ≤ length buffer → (next_answer r c d g n (length buffer) ≡ Last) × (next_left r c d g n buffer ≡ buffer)
+Ends r c d g n = (buffer : List ℕ) → r * c ≤ length buffer → (next_answer r c d g n (length buffer) ≡ Ok Last) × (next_left r c d g n buffer ≡ buffer)
 
 -- the arrays that the second call writes, handed n and then each time the array that it wrote, until it says that this was the last
 abbrev pub Onward : ℕ → ℕ → ℕ → List ℕ → List ℕ → List (List ℕ) → Type 0

@@ -6,7 +6,6 @@ ghost use Rattle.division.specs.Division.{down, rest, Parts};
 ghost use Rattle.division.specs.Clauses.{flip_of, Divides};
 ghost use Rattle.division.specs.Examples.{cases, divided};
 
-use base::convert::{i64_to_u64, u64_to_i64};
 
 // An entry over a weight: rounded down, and what is left over, from 0 to below the weight.
 #[derive(Clone, Copy)]
@@ -28,15 +27,15 @@ pub fn divide(entry: i64, weight: u64) -> Divided
     ensures { Divides weight entry result }
 {
     if entry < 0 {
-        let below = i64_to_u64(flip(entry));
-        let whole = flip(u64_to_i64(below / weight));
+        let below = flip(entry) as u64;
+        let whole = flip((below / weight) as i64);
         return Divided {
             whole,
             rest: weight - 1 - below % weight,
         };
     }
-    let natural = i64_to_u64(entry);
-    let whole = u64_to_i64(natural / weight);
+    let natural = entry as u64;
+    let whole = (natural / weight) as i64;
     Divided {
         whole,
         rest: natural % weight,

@@ -11,10 +11,9 @@ ghost use Rattle.weighted_arrays.specs.Plan.{Belongs};
 ghost use Rattle.drawing.specs.Examples.{draw_cases, drawn, said};
 
 use form::Sizes;
-use opening::Opened;
 use opening::open::open;
 use reading::{read_array, weight};
-use refusals::{Answer, Refusal};
+use refusals::Refusal;
 
 // The place, counted from 0, of the array that a draw number belongs to.
 fn array_of(plan: &[u8], s: Sizes, number: u32) -> usize
@@ -42,26 +41,21 @@ pub fn write_array(plan: &[u8], s: Sizes, number: u32, counts: &mut [u16])
 }
 
 // Writes the array of a draw number, or returns the lowest refusal that applies.
-pub fn draw(plan: &[u8], number: u32, counts: &mut [u16]) -> Answer
+pub fn draw(plan: &[u8], number: u32, counts: &mut [u16]) -> Result<(), Refusal>
     ensures { Answers (draw_refusal plan.now number (length counts.old))
         (written (drawn_array plan.now number) counts.old) counts.old result counts.new }
 {
-    let opened = open(plan);
-    match opened {
-        Opened::Refused(x) => Answer::Refused(x),
-        Opened::Plan(s) => {
-            let denominator = s.denominator;
-            let cells = s.rows * s.columns;
-            if counts.len() < cells {
-                return Answer::Refused(Refusal::Buffer);
-            }
-            if denominator <= number {
-                return Answer::Refused(Refusal::Number);
-            }
-            write_array(plan, s, number, counts);
-            Answer::Done
-        }
+    let s = open(plan)?;
+    let denominator = s.denominator;
+    let cells = s.rows * s.columns;
+    if counts.len() < cells {
+        return Err(Refusal::Buffer);
     }
+    if denominator <= number {
+        return Err(Refusal::Number);
+    }
+    write_array(plan, s, number, counts);
+    Ok(())
 }
 
 // Draws from plans typed out byte by byte are as stated: at both ends of each array's numbers, each refusal, and each two at once.

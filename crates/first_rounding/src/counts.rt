@@ -4,7 +4,6 @@ ghost use Rattle.base.specs.Lists.{tabulate};
 ghost use Rattle.table.specs.Clauses.{max_entry};
 ghost use Rattle.first_rounding.specs.Clauses.{QuotientsReady, Quotients, taken_off, TotalsReady, Overwritten, CountsReady, count_at};
 
-use base::convert::u8_to_u64;
 use table::whole::divide;
 
 // The entries over w, rounded down and up, and their gaps.
@@ -21,7 +20,7 @@ pub fn quotients(
     for k in 0..169 {
         let d = divide(e[k], w);
         low[k] = d.whole;
-        high[k] = d.whole + u8_to_u64(d.gap);
+        high[k] = d.whole + u64::from(d.gap);
         cap[k] = d.gap;
     }
 }
@@ -31,7 +30,7 @@ fn count(low: u64, bit: u8) -> u64
     requires { low ≤ max_entry + 1 }
     ensures { result ≡ low + bit }
 {
-    low + u8_to_u64(bit)
+    low + u64::from(bit)
 }
 
 // The counts of twelve totals, from place `start` on, `step` apart: the bit is taken off the entry rounded up.
@@ -41,7 +40,7 @@ fn totals(high: &[u64; 169], bits: &[u8; 169], n: &mut [u64; 169], start: usize,
 {
     let mut at = start;
     for i in 0..12usize {
-        n[at] = high[at] - u8_to_u64(bits[at]);
+        n[at] = high[at] - u64::from(bits[at]);
         at = at + step;
     }
 }

@@ -2,7 +2,6 @@
 ghost use Rattle.std.specs.Prelude.{◌≡◌, ◌+◌, ◌*◌, get_or};
 ghost use Rattle.first_rounding.specs.Clauses.{line_sum, LineFits, CellsFit, TotalsFit, LinesFit, Needs};
 
-use base::convert::u64_to_u8;
 
 // The sum of twelve numbers from `start` on, `step` apart.
 fn line(l: &[u64; 169], start: usize, step: usize) -> u64
@@ -24,7 +23,7 @@ fn need_cells(low: &[u64; 169], high: &[u64; 169], start: usize, step: usize) ->
     ensures { result + line_sum low.now start step ≡ get_or high.now (start + 12 * step) 0 }
 {
     let last = start + 12 * step;
-    u64_to_u8(high[last] - line(low, start, step))
+    (high[last] - line(low, start, step)) as u8
 }
 
 // The need of the line of totals: the totals rounded up, less the grand total rounded down.
@@ -33,7 +32,7 @@ fn need_totals(low: &[u64; 169], high: &[u64; 169], start: usize, step: usize) -
     ensures { result + get_or low.now (start + 12 * step) 0 ≡ line_sum high.now start step }
 {
     let last = start + 12 * step;
-    u64_to_u8(line(high, start, step) - low[last])
+    (line(high, start, step) - low[last]) as u8
 }
 
 // The needs of the lines that are `next` apart, twelve of cells and one of totals.

@@ -7,7 +7,7 @@ ghost use Rattle.grid.specs.Clauses.{grid_at, grid_of, grid_order};
 ghost use Rattle.table.specs.Clauses.{Shape, check_of};
 
 use table::sums::sum;
-use table::{Checked, Table};
+use table::Table;
 
 pub mod write;
 

@@ -3,7 +3,6 @@ ghost use Rattle.std.specs.Prelude.{◌+◌, ◌*◌, length, get_or};
 ghost use Rattle.base.specs.Clauses.{Filled};
 ghost use Rattle.grid.specs.Clauses.{grid_cell, RowReady, Ready};
 
-use base::convert::u64_to_u16;
 
 // A row of `columns` cells that begins at place `first` of the grid, written from place `at` on.
 fn write_row(n: &[u64; 169], first: usize, columns: usize, counts: &mut [u16], at: usize)
@@ -11,7 +10,7 @@ fn write_row(n: &[u64; 169], first: usize, columns: usize, counts: &mut [u16], a
     ensures { Filled (λ j. get_or n.now (first + j) 0) at counts.old counts.new columns }
 {
     for j in 0..columns {
-        counts[at + j] = u64_to_u16(n[first + j]);
+        counts[at + j] = n[first + j] as u16;
     }
 }
 

@@ -8,7 +8,6 @@ ghost use Rattle.is_rounding.specs.Rounding.{two_ways, is_rounding};
 ghost use Rattle.is_rounding.specs.Examples.{candidates, rounds_table};
 ghost use Rattle.is_rounding.specs.Clauses.{line_places, cell_lines, row_lines, column_lines, grand_lines, BoundsReady, KindReady, BoundsFrom, Bounds, one_outside, lines_between, entries_between, KindHeld, Counts};
 
-use base::convert::{u8_to_u64, u16_to_u32, u64_to_u32};
 use table::Table;
 use table::sums::sum;
 use table::whole::divide;
@@ -86,8 +85,8 @@ fn line_bounds(
     for l in 0..k.count {
         let entry = sum(cells, l * k.stride, k.step, k.number);
         let parts = divide(entry, denominator);
-        low[from + l] = u64_to_u32(parts.whole);
-        high[from + l] = u64_to_u32(parts.whole + u8_to_u64(parts.gap));
+        low[from + l] = parts.whole as u32;
+        high[from + l] = (parts.whole + u64::from(parts.gap)) as u32;
     }
 }
 
@@ -127,7 +126,7 @@ fn count_sum(counts: &[u16], start: usize, step: usize, number: usize) -> u32
     let mut s: u32 = 0;
     let mut at = start;
     for k in 0..number {
-        s = s + u16_to_u32(counts[at]);
+        s = s + u32::from(counts[at]);
         at = at + step;
     }
     s

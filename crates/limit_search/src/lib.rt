@@ -18,12 +18,12 @@ fn first_in(l: &[u64; 169], x: u64, top: usize, left: usize, rows: usize, column
     requires { InGrid (block top left rows columns) }
     ensures { (other : ℕ) → found_or result other ≡ first_that (holds l.now x) (block_places (block top left rows columns)) other }
 {
-    let mut found = Found::Nowhere;
+    let mut found = None;
     'rows: for i in 0..rows {
         for j in 0..columns {
             let k = (top + i) * 13 + (left + j);
             if l[k] == x {
-                found = Found::At(k);
+                found = Some(k);
                 break 'rows;
             }
         }
@@ -40,12 +40,12 @@ pub fn first_place(l: &[u64; 169], x: u64, rows: usize, columns: usize) -> usize
     let row = first_in(l, x, 0, 12, rows, 1);
     let column = first_in(l, x, 12, 0, 1, columns);
     match cell {
-        Found::At(k) => k,
-        Found::Nowhere => match row {
-            Found::At(k) => k,
-            Found::Nowhere => match column {
-                Found::At(k) => k,
-                Found::Nowhere => 168,
+        Some(k) => k,
+        None => match row {
+            Some(k) => k,
+            None => match column {
+                Some(k) => k,
+                None => 168,
             },
         },
     }

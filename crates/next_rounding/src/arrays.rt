@@ -3,7 +3,6 @@ ghost use Rattle.std.specs.Prelude.{◌≡◌, ◌+◌, ◌/◌, ◌%◌, ◌^�
 ghost use Rattle.base.specs.Buffers.{written};
 ghost use Rattle.next_rounding.specs.Clauses.{Small, Places, CountReady, NumberReady, number_in, ArrayReady, numbered};
 
-use base::convert::u16_to_u32;
 use cell_order::{nth_column, nth_row};
 
 // The places of the cells of a table, in the order in which cells are compared.
@@ -34,7 +33,7 @@ pub fn number(
     let mut x: u32 = 0;
     for i in 0..cells {
         let p = places[i];
-        x = 2 * x + (u16_to_u32(array[p]) - low[p]);
+        x = 2 * x + (u32::from(array[p]) - low[p]);
     }
     x
 }

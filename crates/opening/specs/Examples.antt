@@ -5,7 +5,7 @@ use Rattle.base.specs.Lists.{join_to}
 use Rattle.refusals.specs.Answer.{answer_number}
 use Rattle.refusals.specs.Due.{answer_of}
 use Rattle.form.specs.Examples.{square, wide, recurring, largest}
-use Rattle.opening.specs.Open.{open_answer, opened_number, part_refusal}
+use Rattle.opening.specs.Open.{open_answer, part_refusal}
 
 -- one cell 2 over D 3: equal arrays recur, in any order
 abbrev pub three_ones : List ℕ
@@ -124,7 +124,7 @@ pub record Case : Type 0 where
   pub number : ℕ
 
 abbrev pub opened : Case → ℕ
-opened x = opened_number (open_answer x.bytes)
+opened x = answer_number (open_answer x.bytes)
 
 abbrev pub gives : List ℕ → ℕ → Case
 gives b n = record { bytes = b; number = n }

@@ -4,7 +4,6 @@ use Rattle.base.specs.Lists.{sum, all, every}
 use Rattle.table.specs.Table.{entry_places, total}
 use Rattle.table.specs.Whole.{rounds_to}
 use Rattle.table.specs.Check.{cells_within}
-use Rattle.refusals.specs.Numbers.{number_of}
 use Rattle.refusals.specs.declared.Refusal.{Refusal}
 use Rattle.refusals.specs.Due.{Test, refuse, due, refused_or}
 use Rattle.refusals.specs.declared.Refusal.TheVariants.{Layout, Content, Buffer}
@@ -48,11 +47,6 @@ Opens b = open_refusal b ≡ None
 -- the call "open" answers with the plan's sizes
 unfoldable pub open_answer : List ℕ → Result Sizes Refusal
 open_answer b = refused_or Err (Ok (sizes_of b)) (open_refusal b)
-
--- the number that each answer stands for: 0 for a plan that opens, else the refusal's
-abbrev pub opened_number : Result Sizes Refusal → ℕ
-opened_number (Ok s) = 0
-opened_number (Err x) = number_of x
 
 -- The refusals of a call that takes a plan and writes `need` numbers into a buffer of `room`: those of opening, 5 and 6; 7, the buffer is too short
 abbrev pub part_tests : List ℕ → ℕ → ℕ → List Test

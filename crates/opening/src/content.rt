@@ -5,7 +5,6 @@ ghost use Rattle.opening.specs.Open.{consistent};
 ghost use Rattle.reading.specs.Clauses.{Sized};
 ghost use Rattle.opening.specs.Clauses.{weights_right, arrays_right, ArraysTo, ArrayTo, ArrayTested, ArraysTested, TableOf};
 
-use base::wide;
 use form::Sizes;
 use is_rounding::{bounds, held};
 use reading::{read_array, read_table, weight};
@@ -23,9 +22,9 @@ fn weights_right(plan: &[u8], s: Sizes) -> bool
         if w < 1 {
             return false;
         }
-        sum = sum + wide(w);
+        sum = sum + u64::from(w);
     }
-    sum == wide(s.denominator)
+    sum == u64::from(s.denominator)
 }
 
 // Whether array k, counted from 0, is held to the table's entries; its counts times its weight are added to the sums.
@@ -77,7 +76,7 @@ fn arrays_right(plan: &[u8], s: Sizes, cells: &[u32]) -> bool
         cells,
         s.rows,
         s.columns,
-        wide(s.denominator),
+        u64::from(s.denominator),
         &mut low,
         &mut high,
     );

@@ -7,16 +7,6 @@ ghost use Rattle.opening.specs.Examples.{cases, opened, parts, part_number};
 mod content;
 pub mod open;
 
-use form::Sizes;
-use refusals::Refusal;
-
-// What opening some bytes finds.
-#[derive(Clone, Copy)]
-pub enum Opened {
-    Plan(Sizes),
-    Refused(Refusal),
-}
-
 // Plans typed out byte by byte open or are refused as the specification says: each condition, and each two refusals at once; and so are calls that take a
 // plan and write numbers into a buffer.
 pub fn claims()

@@ -1,7 +1,6 @@
 // All rounds of the plan of an accepted table.
 ghost use Rattle.plan.specs.Clauses.{RoundsReady, AllGathered};
 
-use base::convert::u64_to_u32;
 use grid::entries;
 use grid::write::write_cells;
 use planning::round::one_round;
@@ -18,7 +17,7 @@ pub fn gather(t: Table, cells: &[u32], weights: &mut [u32], counts: &mut [u16]) 
     while w > 0 {
         let mut n = [0u64; 169];
         let x = one_round(&mut e, w, &mut n);
-        weights[k] = u64_to_u32(x);
+        weights[k] = x as u32;
         write_cells(&n, t.rows, t.columns, counts, k * (t.rows * t.columns));
         w = w - x;
         k = k + 1;

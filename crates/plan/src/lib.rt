@@ -9,28 +9,20 @@ ghost use Rattle.plan.specs.Examples.{calls, planned, said};
 ghost use Rattle.plan.specs.Promises.{Promises};
 
 use crate::gather::gather;
-use base::convert::u64_to_u32;
 use form::Sizes;
 use form::layout::plan_length;
 use refusals::Refusal;
 use table::check::check;
-use table::{Checked, Table};
+use table::Table;
 use writing::write;
 
 mod gather;
-
-// What planning a table answers: the length of the stored plan, or why there is none.
-#[derive(Clone, Copy)]
-pub enum Planned {
-    Length(u32),
-    Refused(Refusal),
-}
 
 // How many counts the largest plan has: 170 arrays of 144 cells.
 const COUNTS: usize = 24480;
 
 // Plans an accepted table: the rounds run once, into a scratch of this function, before anything is written.
-fn plan_table(t: Table, cells: &[u32], plan: &mut [u8]) -> Planned
+fn plan_table(t: Table, cells: &[u32], plan: &mut [u8]) -> Result<u32, Refusal>
     requires { IsTable t.rows t.columns t.denominator cells.now }
     ensures { PlanAnswers t.rows t.columns t.denominator cells.now plan.old result plan.new }
 {
@@ -41,36 +33,33 @@ fn plan_table(t: Table, cells: &[u32], plan: &mut [u8]) -> Planned
     let arrays = gather(t, cells, &mut weights, &mut counts);
     let length = plan_length(rows, columns, arrays);
     if plan.len() < length {
-        return Planned::Refused(Refusal::Buffer);
+        return Err(Refusal::Buffer);
     }
     let s = Sizes {
         rows,
         columns,
         arrays,
-        denominator: u64_to_u32(t.denominator),
+        denominator: t.denominator as u32,
     };
     write(s, cells, &weights, &counts, plan);
-    Planned::Length(length as u32)
+    Ok(length as u32)
 }
 
 // Writes the stored plan of a table and returns its length, or the lowest refusal that applies.
-pub fn plan(rows: u32, columns: u32, denominator: u32, cells: &[u32], plan: &mut [u8]) -> Planned
+pub fn plan(rows: u32, columns: u32, denominator: u32, cells: &[u32], plan: &mut [u8]) -> Result<u32, Refusal>
     ensures { PlanAnswers rows columns denominator cells.now plan.old result plan.new }
 {
-    let checked = check(rows, columns, denominator, cells);
-    match checked {
-        Checked::Refused(x) => Planned::Refused(x),
-        Checked::Accepted(t) => plan_table(t, cells, plan),
-    }
+    let t = check(rows, columns, denominator, cells)?;
+    plan_table(t, cells, plan)
 }
 
 // The number that an answer stands for: the length, which is 30 or more, or the refusal's.
-pub fn planned_number(r: Planned) -> u32
+pub fn planned_number(r: Result<u32, Refusal>) -> u32
     ensures { result ≡ planned_number r }
 {
     match r {
-        Planned::Length(n) => n,
-        Planned::Refused(x) => refusals::number(x),
+        Ok(n) => n,
+        Err(x) => u32::from(x),
     }
 }
 

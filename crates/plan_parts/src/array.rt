@@ -3,38 +3,32 @@ ghost use Rattle.std.specs.Prelude.{length};
 ghost use Rattle.refusals.specs.Due.{Answers};
 ghost use Rattle.plan_parts.specs.Array.{buffers, array_refusal, array_into};
 
-use opening::Opened;
 use opening::open::open;
 use reading::{read_array, weight};
-use refusals::{Answer, Refusal};
+use refusals::Refusal;
 
 // Writes the weight and the counts of array `number`, from 1 on, or returns the first refusal that applies.
-pub fn array(plan: &[u8], number: u32, weights: &mut [u32], counts: &mut [u16]) -> Answer
+pub fn array(plan: &[u8], number: u32, weights: &mut [u32], counts: &mut [u16]) -> Result<(), Refusal>
     ensures { Answers (array_refusal plan.now number (length weights.old) (length counts.old))
         (array_into plan.now number (buffers weights.old counts.old))
         (buffers weights.old counts.old) result (buffers weights.new counts.new) }
 {
-    let opened = open(plan);
-    match opened {
-        Opened::Refused(x) => Answer::Refused(x),
-        Opened::Plan(s) => {
-            let k = number as usize;
-            let cells = s.rows * s.columns;
-            if k < 1 {
-                return Answer::Refused(Refusal::Array);
-            }
-            if s.arrays < k {
-                return Answer::Refused(Refusal::Array);
-            }
-            if weights.len() < 1 {
-                return Answer::Refused(Refusal::Buffer);
-            }
-            if counts.len() < cells {
-                return Answer::Refused(Refusal::Buffer);
-            }
-            weights[0] = weight(plan, k - 1);
-            read_array(plan, k - 1, counts);
-            Answer::Done
-        }
+    let s = open(plan)?;
+    let k = number as usize;
+    let cells = s.rows * s.columns;
+    if k < 1 {
+        return Err(Refusal::Array);
     }
+    if s.arrays < k {
+        return Err(Refusal::Array);
+    }
+    if weights.len() < 1 {
+        return Err(Refusal::Buffer);
+    }
+    if counts.len() < cells {
+        return Err(Refusal::Buffer);
+    }
+    weights[0] = weight(plan, k - 1);
+    read_array(plan, k - 1, counts);
+    Ok(())
 }

@@ -13,10 +13,9 @@ ghost use Rattle.plan_parts.specs.Examples.{size_cases, told_sizes, cell_cases, 
 
 use base::write::write_four;
 use form::Sizes;
-use opening::Opened;
 use opening::open::open;
 use reading::read_table;
-use refusals::{Answer, Refusal};
+use refusals::Refusal;
 
 pub mod array;
 
@@ -35,39 +34,29 @@ fn write_sizes(s: Sizes, numbers: &mut [u32])
 }
 
 // Writes a plan's sizes (rows, columns, arrays, denominator), or returns the lowest refusal that applies.
-pub fn sizes(plan: &[u8], numbers: &mut [u32]) -> Answer
+pub fn sizes(plan: &[u8], numbers: &mut [u32]) -> Result<(), Refusal>
     ensures { Answers (part_refusal plan.now 4 (length numbers.old))
         (written (size_numbers plan.now) numbers.old) numbers.old result numbers.new }
 {
-    let opened = open(plan);
-    match opened {
-        Opened::Refused(x) => Answer::Refused(x),
-        Opened::Plan(s) => {
-            if numbers.len() < 4 {
-                return Answer::Refused(Refusal::Buffer);
-            }
-            write_sizes(s, numbers);
-            Answer::Done
-        }
+    let s = open(plan)?;
+    if numbers.len() < 4 {
+        return Err(Refusal::Buffer);
     }
+    write_sizes(s, numbers);
+    Ok(())
 }
 
 // Writes the cells of a plan's table, or returns the lowest refusal that applies.
-pub fn cells(plan: &[u8], cells: &mut [u32]) -> Answer
+pub fn cells(plan: &[u8], cells: &mut [u32]) -> Result<(), Refusal>
     ensures { Answers (part_refusal plan.now (cell_count (decode plan.now)) (length cells.old))
         (written (decode plan.now).cells cells.old) cells.old result cells.new }
 {
-    let opened = open(plan);
-    match opened {
-        Opened::Refused(x) => Answer::Refused(x),
-        Opened::Plan(s) => {
-            if cells.len() < s.rows * s.columns {
-                return Answer::Refused(Refusal::Buffer);
-            }
-            read_table(plan, cells);
-            Answer::Done
-        }
+    let s = open(plan)?;
+    if cells.len() < s.rows * s.columns {
+        return Err(Refusal::Buffer);
     }
+    read_table(plan, cells);
+    Ok(())
 }
 
 // The literal cases are as stated: buffers of just the needed length, longer and one less, each refusal, and 7 beside each other.

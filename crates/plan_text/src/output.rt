@@ -6,7 +6,7 @@ ghost use Rattle.plan_text.specs.Text.{table_output, output, max_listing};
 use crate::print::{print_plan_bytes, print_text_refusal};
 use form::MAX_LENGTH;
 use parsing::parse;
-use plan::{Planned, plan};
+use plan::plan;
 use printing::line::print_refusal;
 
 // The listing of a table's plan, or the table's refusal.
@@ -17,8 +17,8 @@ fn output_table(rows: u32, columns: u32, denominator: u32, cells: &[u32], out: &
     let mut buffer = [0u8; MAX_LENGTH];
     let planned = plan(rows, columns, denominator, cells, &mut buffer);
     match planned {
-        Planned::Refused(x) => print_refusal(x, out, 0),
-        Planned::Length(n) => print_plan_bytes(&buffer[..n as usize], out, 0),
+        Err(x) => print_refusal(x, out, 0),
+        Ok(n) => print_plan_bytes(&buffer[..n as usize], out, 0),
     }
 }
 

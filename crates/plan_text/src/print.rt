@@ -8,7 +8,6 @@ ghost use Rattle.printing.specs.Write.{Wrote};
 ghost use Rattle.plan_text.specs.Text.{listing, refused_text};
 ghost use Rattle.plan_text.specs.Clauses.{plan_line, LineOf, LineRead, Printable, Listable, ListableAt};
 
-use base::convert::u16_to_u32;
 use form::layout::sizes;
 use printing::line::print_numbers;
 use printing::write::put_bytes;
@@ -33,7 +32,7 @@ fn widen(counts: &[u16], numbers: &mut [u32; 145])
     ensures { Filled (λ i. get_or counts.now i 0) 1 numbers.old numbers.new (length counts.now) }
 {
     for i in 0..counts.len() {
-        numbers[1 + i] = u16_to_u32(counts[i]);
+        numbers[1 + i] = u32::from(counts[i]);
     }
 }
 

@@ -6,8 +6,6 @@ ghost use Rattle.pool.specs.Pool.{scaled_cells};
 ghost use Rattle.pool.specs.Clauses.{Factors, Scaled, Writable};
 
 use crate::Scale;
-use base::convert::u64_to_u32;
-use base::wide;
 use table::Table;
 
 // A pooled cell of a cell of each table. A factor is at most 65,535, so it stays below 2^49 whatever the two cells are.
@@ -15,7 +13,7 @@ fn pooled_cell(s: Scale, x: u32, y: u32) -> u64
     requires { Factors s }
     ensures { result ≡ s.first * x + s.second * y }
 {
-    s.first * wide(x) + s.second * wide(y)
+    s.first * u64::from(x) + s.second * u64::from(y)
 }
 
 // Whether each pooled cell is at most 1000 times the pooled denominator.
@@ -40,6 +38,6 @@ pub fn write_pooled(s: Scale, first: &[u32], second: &[u32], cells: &mut [u32])
     ensures { cells.new ≡ written (scaled_cells s.first s.second first.now second.now) cells.old }
 {
     for i in 0..first.len() {
-        cells[i] = u64_to_u32(pooled_cell(s, first[i], second[i]));
+        cells[i] = pooled_cell(s, first[i], second[i]) as u32;
     }
 }

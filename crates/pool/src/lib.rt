@@ -11,9 +11,8 @@ ghost use Rattle.pool.specs.Examples.{cases, pooled, said};
 
 use crate::cells::{pooled_within, write_pooled};
 use crate::check::{Pair, Parts, check_parts};
-use base::convert::u64_to_u32;
 use multiples::lcm;
-use refusals::{Answer, Refusal};
+use refusals::Refusal;
 use table::Table;
 
 mod cells;
@@ -53,7 +52,7 @@ pub fn pool(
     second: &[u32],
     denominator: &mut [u32],
     cells: &mut [u32],
-) -> Answer
+) -> Result<(), Refusal>
     ensures { Answers (pool_refusal rows columns d first.now e second.now
         (length denominator.old) (length cells.old))
         (pooled_into d first.now e second.now (lent denominator.old cells.old))
@@ -61,26 +60,26 @@ pub fn pool(
 {
     let parts = check_parts(rows, columns, d, first, e, second);
     match parts {
-        Parts::Refused(x) => Answer::Refused(x),
-        Parts::Accepted(p) => {
+        Err(x) => Err(x),
+        Ok(p) => {
             let s = scale_of(p);
             let above = (Table::MAX_DENOMINATOR as u64) < s.denominator;
             let within = pooled_within(s, first, second);
             if above {
-                return Answer::Refused(Refusal::Multiple);
+                return Err(Refusal::Multiple);
             }
             if !within {
-                return Answer::Refused(Refusal::PooledCell);
+                return Err(Refusal::PooledCell);
             }
             if denominator.len() < 1 {
-                return Answer::Refused(Refusal::Buffer);
+                return Err(Refusal::Buffer);
             }
             if cells.len() < s.cells {
-                return Answer::Refused(Refusal::Buffer);
+                return Err(Refusal::Buffer);
             }
-            denominator[0] = u64_to_u32(s.denominator);
+            denominator[0] = s.denominator as u32;
             write_pooled(s, first, second, cells);
-            Answer::Done
+            Ok(())
         }
     }
 }

@@ -5,7 +5,6 @@ ghost use Rattle.printing.specs.Clauses.{Room};
 ghost use Rattle.printing.specs.Write.{Wrote};
 
 use crate::write::{put_bytes, put_decimal, put_number};
-use base::wide;
 use refusals::Refusal;
 
 // Prints numbers as a line.
@@ -15,7 +14,7 @@ pub fn print_numbers(numbers: &[u32], out: &mut [u8], at: usize) -> usize
 {
     let mut end = at;
     for i in 0..numbers.len() {
-        end = put_number(out, end, i, wide(numbers[i]));
+        end = put_number(out, end, i, u64::from(numbers[i]));
     }
     put_bytes(out, end, b"\n")
 }
@@ -26,6 +25,6 @@ pub fn print_refusal(r: Refusal, out: &mut [u8], at: usize) -> usize
     ensures { Wrote out.old at (refused (number_of r)) out.new result }
 {
     let first = put_bytes(out, at, b"refused ");
-    let second = put_decimal(out, first, wide(refusals::number(r)));
+    let second = put_decimal(out, first, u64::from(u32::from(r)));
     put_bytes(out, second, b"\n")
 }

@@ -6,13 +6,24 @@ ghost use Rattle.base.specs.Buffers.{written};
 ghost use Rattle.refusals.specs.Answer.{answer_number};
 ghost use Rattle.refusals.specs.Due.{answer_of, Answers};
 ghost use Rattle.reasons.specs.Call.{reason_answer};
-ghost use Rattle.reason_numbers.specs.Numbers.{entry_numbers, reason_numbers, reply_number, reply_refusal};
+ghost use Rattle.reason_numbers.specs.Numbers.{direction_number, entry_numbers, reason_numbers, reply_number, reply_refusal};
 ghost use Rattle.reason_numbers.specs.Clauses.{room_refusal};
 ghost use Rattle.reason_numbers.specs.Examples.{calls, replied, said};
 
 use base::write::write_four;
-use reasons::{Entry, Reply, reason};
-use refusals::{Answer, Refusal};
+use reasons::{Direction, Entry, reason};
+use refusals::Refusal;
+
+// The number of a direction.
+fn direction_number(direction: Direction) -> u32
+    ensures { result ≡ direction_number direction }
+{
+    match direction {
+        Direction::AllWhole => 0,
+        Direction::Down => 1,
+        Direction::Up => 2,
+    }
+}
 
 // Writes the numbers of an entry and of the direction in which it was rounded.
 fn write_entry(entry: Entry, direction: u32, reply: &mut [u32])
@@ -27,18 +38,6 @@ fn write_entry(entry: Entry, direction: u32, reply: &mut [u32])
     }
 }
 
-// Writes them where there is room.
-fn write(entry: Entry, direction: u32, reply: &mut [u32]) -> Answer
-    ensures { Answers (room_refusal (length reply.old)) (written (entry_numbers entry ++ (direction ∷ [])) reply.old)
-        reply.old result reply.new }
-{
-    if reply.len() < 4 {
-        return Answer::Refused(Refusal::Buffer);
-    }
-    write_entry(entry, direction, reply);
-    Answer::Done
-}
-
 // Writes the four numbers of the reason of an array's weight, or returns the first refusal that applies.
 pub fn write_reason(
     rows: u32,
@@ -47,18 +46,17 @@ pub fn write_reason(
     cells: &[u32],
     array: u32,
     reply: &mut [u32],
-) -> Answer
+) -> Result<(), Refusal>
     ensures { Answers (reply_refusal rows columns denominator cells.now array (length reply.old))
         (written (reason_numbers (reason_answer rows columns denominator cells.now array)) reply.old)
         reply.old result reply.new }
 {
-    let found = reason(rows, columns, denominator, cells, array);
-    match found {
-        Reply::Refused(x) => Answer::Refused(x),
-        Reply::AllWhole(e) => write(e, 0, reply),
-        Reply::Down(e) => write(e, 1, reply),
-        Reply::Up(e) => write(e, 2, reply),
+    let found = reason(rows, columns, denominator, cells, array)?;
+    if reply.len() < 4 {
+        return Err(Refusal::Buffer);
     }
+    write_entry(found.entry, direction_number(found.direction), reply);
+    Ok(())
 }
 
 // With room for four numbers the call returns the number of the reply, whatever the table; and the literal calls are as stated.

@@ -6,8 +6,8 @@ use Rattle.table.specs.Clauses.{Shape, max_entry}
 use Rattle.grid.specs.Clauses.{grid_of}
 use Rattle.reasons.specs.declared.Entry.{Entry}
 use Rattle.reasons.specs.declared.Entry.TheVariants.{Cell, RowTotal, ColumnTotal, GrandTotal}
-use Rattle.reasons.specs.declared.Reply.{Reply}
-use Rattle.reasons.specs.declared.Reply.TheVariants.{Down, Up, AllWhole}
+use Rattle.reasons.specs.declared.Direction.{Direction}
+use Rattle.reasons.specs.declared.Direction.TheVariants.{Down, Up, AllWhole}
 
 -- the entry that stands at a place of the grid
 abbrev pub entry_at : ℕ → Entry
@@ -17,8 +17,8 @@ entry_at k =
     (cond (ltb (k % 13) 12) (ColumnTotal (k % 13 + 1)) GrandTotal)
 
 -- how an entry e over w with the count n was rounded, where the weight is x
-abbrev pub directed : ℕ → ℕ → ℕ → ℕ → Entry → Reply
-directed w x e n named = cond (eqb x w) (AllWhole named) (cond (eqb n (down w e)) (Down named) (Up named))
+abbrev pub directed : ℕ → ℕ → ℕ → ℕ → Direction
+directed w x e n = cond (eqb x w) AllWhole (cond (eqb n (down w e)) Down Up)
 
 -- e has the entries of a remaining table of r by c cells over w
 pub record Remains (r c w : ℕ) (e : List ℕ) : Type 0 where

@@ -7,7 +7,7 @@ ghost use Rattle.reasons.specs.Reason.{reason_of};
 ghost use Rattle.reasons.specs.Call.{reason_answer};
 ghost use Rattle.reasons.specs.Clauses.{entry_at, directed, Remains};
 
-use crate::{Entry, Reply};
+use crate::{Direction, Entry, Reason};
 use grid::entries;
 use limit_search::first_place;
 use planning::round::{next_array, one_round};
@@ -35,23 +35,23 @@ pub fn entry_at(place: usize) -> Entry
 }
 
 // How an entry over w with its count was rounded, where the weight is x. All are whole just if the weight is all that is left.
-fn direction(w: u64, x: u64, entry: u64, count: u64, named: Entry) -> Reply
+fn direction(w: u64, x: u64, entry: u64, count: u64) -> Direction
     requires { Dividable w entry }
-    ensures { result ≡ directed w x entry count named }
+    ensures { result ≡ directed w x entry count }
 {
     if x == w {
-        return Reply::AllWhole(named);
+        return Direction::AllWhole;
     }
     let d = divide(entry, w);
     if count == d.whole {
-        Reply::Down(named)
+        Direction::Down
     } else {
-        Reply::Up(named)
+        Direction::Up
     }
 }
 
 // The reason of the next array of a remaining table with entries e over w.
-fn reason_of(e: &[u64; 169], w: u64, rows: usize, columns: usize) -> Reply
+fn reason_of(e: &[u64; 169], w: u64, rows: usize, columns: usize) -> Reason
     requires { Remains rows columns w e.now }
     ensures { (g : List ℕ) → Shape rows columns g → e.now ≡ grid_of rows columns g → result ≡ reason_of rows columns (round_on rows columns w g) }
 {
@@ -59,12 +59,14 @@ fn reason_of(e: &[u64; 169], w: u64, rows: usize, columns: usize) -> Reply
     let mut l = [0u64; 169];
     let x = next_array(e, w, &mut n, &mut l);
     let k = first_place(&l, x, rows, columns);
-    let named = entry_at(k);
-    direction(w, x, e[k], n[k], named)
+    Reason {
+        entry: entry_at(k),
+        direction: direction(w, x, e[k], n[k]),
+    }
 }
 
 // The reason of the weight of an array, from 1 on, of an accepted table's plan; refused where the rounds end before it.
-pub fn find(t: Table, cells: &[u32], array: u32) -> Reply
+pub fn find(t: Table, cells: &[u32], array: u32) -> Result<Reason, Refusal>
     requires { IsTable t.rows t.columns t.denominator cells.now }
     ensures { result ≡ reason_answer t.rows t.columns t.denominator cells.now array }
 {
@@ -74,11 +76,11 @@ pub fn find(t: Table, cells: &[u32], array: u32) -> Reply
     while w > 0 {
         k = k + 1;
         if k == array {
-            return reason_of(&e, w, t.rows, t.columns);
+            return Ok(reason_of(&e, w, t.rows, t.columns));
         }
         let mut n = [0u64; 169];
         let x = one_round(&mut e, w, &mut n);
         w = w - x;
     }
-    Reply::Refused(Refusal::Array)
+    Err(Refusal::Array)
 }

@@ -9,13 +9,13 @@ ghost use Rattle.reasons.specs.Explained.{Explained};
 
 use crate::find::find;
 use refusals::Refusal;
-use table::Checked;
+use table::Table;
 use table::check::check;
 
 mod find;
 
 // An entry of a table; rows and columns are counted from 1.
-#[derive(Clone, Copy)]
+#[derive(Clone, Copy, Debug, PartialEq, Eq)]
 pub enum Entry {
     // row, column
     Cell(u32, u32),
@@ -24,24 +24,27 @@ pub enum Entry {
     GrandTotal,
 }
 
-// What asking for the reason of an array's weight answers: the entry that set it, with the way it was rounded, or why there is no reason.
-#[derive(Clone, Copy)]
-pub enum Reply {
-    Down(Entry),
-    Up(Entry),
-    AllWhole(Entry),
-    Refused(Refusal),
+// The way an entry was rounded, or that all entries were whole.
+#[derive(Clone, Copy, Debug, PartialEq, Eq)]
+pub enum Direction {
+    AllWhole,
+    Down,
+    Up,
+}
+
+// The reason of an array's weight: the entry that set it, and the way it was rounded.
+#[derive(Clone, Copy, Debug, PartialEq, Eq)]
+pub struct Reason {
+    pub entry: Entry,
+    pub direction: Direction,
 }
 
 // The reason of the weight of an array, from 1 on, of a table's plan, or the first refusal that applies.
-pub fn reason(rows: u32, columns: u32, denominator: u32, cells: &[u32], array: u32) -> Reply
+pub fn reason(rows: u32, columns: u32, denominator: u32, cells: &[u32], array: u32) -> Result<Reason, Refusal>
     ensures { result ≡ reason_answer rows columns denominator cells.now array }
 {
-    let checked = check(rows, columns, denominator, cells);
-    match checked {
-        Checked::Refused(x) => Reply::Refused(x),
-        Checked::Accepted(t) => find(t, cells, array),
-    }
+    let t = check(rows, columns, denominator, cells)?;
+    find(t, cells, array)
 }
 
 // What holds of the reason of every array of an accepted table; and the named entries are the table's, in their order.

@@ -5,7 +5,7 @@ ghost use Rattle.form.specs.Form.{decode};
 ghost use Rattle.records.specs.Record.{record_of, within, fits};
 ghost use Rattle.records.specs.Clauses.{Numbered, taken_numbers, Few, Fitted};
 
-use crate::MAX_ROUNDS;
+use crate::{MAX_ROUNDS, Record};
 use crate::tally::tally_fits;
 use bits::bits_set;
 use form::Sizes;
@@ -55,9 +55,9 @@ fn within(denominator: u32, taken: u32, rounds: u16) -> bool
 }
 
 // Whether the record fits the opened plan. The time is that of the D bits and of the counts of the K arrays.
-pub fn fits(plan: &[u8], s: Sizes, taken: u32, rounds: u16, bits: &[u8], tally: &[u64]) -> bool
+pub fn fits(plan: &[u8], s: Sizes, record: Record, bits: &[u8], tally: &[u64]) -> bool
     requires { Fitted s plan.now bits.now tally.now }
-    ensures { result ≡ fits (decode plan.now) (record_of taken rounds bits.now tally.now) }
+    ensures { result ≡ fits (decode plan.now) (record_of «record».taken «record».rounds bits.now tally.now) }
 {
     let denominator = s.denominator as usize;
     let spare = 8 * ((denominator + 7) / 8) - denominator;
@@ -65,11 +65,11 @@ pub fn fits(plan: &[u8], s: Sizes, taken: u32, rounds: u16, bits: &[u8], tally: 
         return false;
     }
     let numbers = taken_numbers(plan, s, bits);
-    if all_taken(&numbers, s.arrays) != taken {
+    if all_taken(&numbers, s.arrays) != record.taken {
         return false;
     }
-    if !within(s.denominator, taken, rounds) {
+    if !within(s.denominator, record.taken, record.rounds) {
         return false;
     }
-    tally_fits(plan, s, rounds, &numbers, tally)
+    tally_fits(plan, s, record.rounds, &numbers, tally)
 }

@@ -8,6 +8,14 @@ ghost use Rattle.records.specs.Examples.{rows};
 pub mod fit;
 mod tally;
 
+// The part of a campaign record that is no buffer: the count of numbers taken, and the rounds completed.
+#[repr(C)]
+#[derive(Clone, Copy, Debug, PartialEq, Eq)]
+pub struct Record {
+    pub taken: u32,
+    pub rounds: u16,
+}
+
 // A campaign has at most so many rounds.
 pub const MAX_ROUNDS: u16 = 1000;
 

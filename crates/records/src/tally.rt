@@ -6,8 +6,6 @@ ghost use Rattle.reading.specs.Clauses.{Sized};
 ghost use Rattle.weighted_arrays.specs.Clauses.{Increased};
 ghost use Rattle.records.specs.Clauses.{ArrayAddable, ArraysAdded, Compared, tally_met, Tallied, tally_fits};
 
-use base::convert::u16_to_u64;
-use base::wide;
 use form::Sizes;
 use reading::{read_array, read_table};
 use weighted_arrays::add_weighted;
@@ -40,10 +38,10 @@ fn tally_met(rounds: u16, cells: &[u32; 144], sums: &[u64; 144], tally: &[u64]) 
     requires { Compared cells.now sums.now tally.now }
     ensures { result ≡ tally_met rounds cells.now sums.now tally.now }
 {
-    let times = u16_to_u64(rounds);
+    let times = u64::from(rounds);
     let mut i = 0;
     while i < tally.len() {
-        if times * wide(cells[i]) + sums[i] != tally[i] {
+        if times * u64::from(cells[i]) + sums[i] != tally[i] {
             return false;
         }
         i += 1;

@@ -9,7 +9,7 @@ ghost use Rattle.refusals.specs.Due.{Test, due, none_applies, FirstDue};
 ghost use Rattle.refusals.specs.Clauses.{lower_of};
 
 // Why a call refuses its input, in the order of the refusals' numbers.
-#[derive(Clone, Copy)]
+#[derive(Clone, Copy, Debug, PartialEq, Eq)]
 pub enum Refusal {
     // rows or columns not from 1 to 12
     Size,
@@ -45,34 +45,29 @@ pub enum Refusal {
     NotRounding,
 }
 
-// What a call answers that returns nothing but its success.
-#[derive(Clone, Copy)]
-pub enum Answer {
-    Done,
-    Refused(Refusal),
-}
+impl From<Refusal> for u32 {
+    ghost from_gives = { λ r n. n ≡ number_of r };
 
-// The number of a refusal.
-pub fn number(r: Refusal) -> u32
-    ensures { result ≡ number_of r }
-{
-    match r {
-        Refusal::Size => 1,
-        Refusal::Denominator => 2,
-        Refusal::CellCount => 3,
-        Refusal::LargeCell => 4,
-        Refusal::Layout => 5,
-        Refusal::Content => 6,
-        Refusal::Buffer => 7,
-        Refusal::Number => 8,
-        Refusal::Record => 9,
-        Refusal::Taken => 10,
-        Refusal::Multiple => 11,
-        Refusal::PooledCell => 12,
-        Refusal::Rounds => 13,
-        Refusal::Array => 14,
-        Refusal::WalkSize => 15,
-        Refusal::NotRounding => 16,
+    // The number of a refusal.
+    fn from(r: Refusal) -> u32 {
+        match r {
+            Refusal::Size => 1,
+            Refusal::Denominator => 2,
+            Refusal::CellCount => 3,
+            Refusal::LargeCell => 4,
+            Refusal::Layout => 5,
+            Refusal::Content => 6,
+            Refusal::Buffer => 7,
+            Refusal::Number => 8,
+            Refusal::Record => 9,
+            Refusal::Taken => 10,
+            Refusal::Multiple => 11,
+            Refusal::PooledCell => 12,
+            Refusal::Rounds => 13,
+            Refusal::Array => 14,
+            Refusal::WalkSize => 15,
+            Refusal::NotRounding => 16,
+        }
     }
 }
 
@@ -80,16 +75,16 @@ pub fn number(r: Refusal) -> u32
 pub fn lower(x: Refusal, y: Refusal) -> Refusal
     ensures { result ≡ lower_of x y }
 {
-    if number(x) <= number(y) { x } else { y }
+    if u32::from(x) <= u32::from(y) { x } else { y }
 }
 
-// The number of an answer: 0 for done.
-pub fn answer_number(a: Answer) -> u32
+// The number of an answer: 0 where there is no refusal.
+pub fn answer_number<T: Drop>(a: Result<T, Refusal>) -> u32
     ensures { result ≡ answer_number a }
 {
     match a {
-        Answer::Done => 0,
-        Answer::Refused(x) => number(x),
+        Ok(_) => 0,
+        Err(x) => u32::from(x),
     }
 }
 

@@ -12,9 +12,9 @@ ghost use Rattle.rounding.specs.Examples.{round_cases, rounded, said};
 use first_rounding::round_grid;
 use grid::entries;
 use grid::write::write_cells;
-use refusals::{Answer, Refusal};
+use refusals::Refusal;
 use table::check::check;
-use table::{Checked, Table};
+use table::Table;
 
 // Writes the first controlled rounding of an accepted table.
 pub fn write_rounding(t: Table, cells: &[u32], counts: &mut [u16])
@@ -31,21 +31,16 @@ pub fn write_rounding(t: Table, cells: &[u32], counts: &mut [u16])
 }
 
 // Writes the first controlled rounding of a table, or returns the lowest refusal that applies.
-pub fn round(rows: u32, columns: u32, denominator: u32, cells: &[u32], counts: &mut [u16]) -> Answer
+pub fn round(rows: u32, columns: u32, denominator: u32, cells: &[u32], counts: &mut [u16]) -> Result<(), Refusal>
     ensures { Answers (round_refusal rows columns denominator cells.now (length counts.old))
         (written (first_rounding rows columns denominator cells.now) counts.old) counts.old result counts.new }
 {
-    let checked = check(rows, columns, denominator, cells);
-    match checked {
-        Checked::Refused(x) => Answer::Refused(x),
-        Checked::Accepted(t) => {
-            if counts.len() < t.rows * t.columns {
-                return Answer::Refused(Refusal::Buffer);
-            }
-            write_rounding(t, cells, counts);
-            Answer::Done
-        }
+    let t = check(rows, columns, denominator, cells)?;
+    if counts.len() < t.rows * t.columns {
+        return Err(Refusal::Buffer);
     }
+    write_rounding(t, cells, counts);
+    Ok(())
 }
 
 // The literal calls are as stated, with 7 beside each other refusal.

@@ -3,7 +3,7 @@ ghost use Rattle.std.specs.Prelude.{◌≡◌, ◌≤◌, eqb};
 ghost use Rattle.table.specs.Check.{up_to, size_within, denominator_within, cells_within};
 ghost use Rattle.table.specs.Clauses.{sizes_of, check_of};
 
-use crate::{Checked, Refusal, Table};
+use crate::{Refusal, Table};
 
 // Whether a number is from 1 to a bound.
 pub fn up_to(bound: u32, n: u32) -> bool
@@ -56,19 +56,19 @@ pub fn count_is(count: usize, cells: usize) -> bool
 }
 
 // The sizes of a table of `count` cells, or the lowest of 1 to 3 that applies.
-pub fn sizes(rows: u32, columns: u32, denominator: u32, count: usize) -> Checked
+pub fn sizes(rows: u32, columns: u32, denominator: u32, count: usize) -> Result<Table, Refusal>
     ensures { result ≡ sizes_of rows columns denominator count }
 {
     if !size_within(rows, columns) {
-        return Checked::Refused(Refusal::Size);
+        return Err(Refusal::Size);
     }
     if !denominator_within(denominator) {
-        return Checked::Refused(Refusal::Denominator);
+        return Err(Refusal::Denominator);
     }
     if !count_is(count, (rows as usize) * (columns as usize)) {
-        return Checked::Refused(Refusal::CellCount);
+        return Err(Refusal::CellCount);
     }
-    Checked::Accepted(Table {
+    Ok(Table {
         rows: rows as usize,
         columns: columns as usize,
         denominator: denominator as u64,
@@ -76,17 +76,12 @@ pub fn sizes(rows: u32, columns: u32, denominator: u32, count: usize) -> Checked
 }
 
 // The table's sizes, or the lowest refusal that applies.
-pub fn check(rows: u32, columns: u32, denominator: u32, cells: &[u32]) -> Checked
+pub fn check(rows: u32, columns: u32, denominator: u32, cells: &[u32]) -> Result<Table, Refusal>
     ensures { result ≡ check_of rows columns denominator cells.now }
 {
-    let sized = sizes(rows, columns, denominator, cells.len());
-    match sized {
-        Checked::Refused(x) => Checked::Refused(x),
-        Checked::Accepted(t) => {
-            if !cells_within(denominator, cells) {
-                return Checked::Refused(Refusal::LargeCell);
-            }
-            Checked::Accepted(t)
-        }
+    let t = sizes(rows, columns, denominator, cells.len())?;
+    if !cells_within(denominator, cells) {
+        return Err(Refusal::LargeCell);
     }
+    Ok(t)
 }

@@ -37,13 +37,6 @@ impl Table {
     pub const MAX_CELLS: u32 = 144;
 }
 
-// What the check of a table finds.
-#[derive(Clone, Copy)]
-pub enum Checked {
-    Accepted(Table),
-    Refused(Refusal),
-}
-
 // The constants of the code are the bounds of the definitions.
 pub fn bounds()
     ensures rows { Table.MAX_ROWS ≡ max_rows }

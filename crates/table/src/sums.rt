@@ -3,7 +3,6 @@ ghost use Rattle.std.specs.Prelude.{◌≡◌, length};
 ghost use Rattle.table.specs.Table.{places, total};
 ghost use Rattle.table.specs.Clauses.{Reach};
 
-use base::wide;
 
 // The sum of `count` cells from `start` on, `step` apart.
 pub fn sum(cells: &[u32], start: usize, step: usize, count: usize) -> u64
@@ -13,7 +12,7 @@ pub fn sum(cells: &[u32], start: usize, step: usize, count: usize) -> u64
     let mut s: u64 = 0;
     let mut at = start;
     for k in 0..count {
-        s = s + wide(cells[at]);
+        s = s + u64::from(cells[at]);
         at = at + step;
     }
     s

@@ -1,7 +1,6 @@
 // The division of an entry that is not below zero by a weight, on which rounding, limits, opening, reasons and variances rest.
 ghost use Rattle.table.specs.Clauses.{Dividable, Divides};
 
-use base::convert::{i64_to_u64, u64_to_i64};
 
 // An entry over a weight: rounded down, what is left over, and 1 where that is not 0, else 0.
 #[derive(Clone, Copy)]
@@ -16,8 +15,8 @@ pub fn divide(entry: u64, weight: u64) -> Divided
     requires { Dividable weight entry }
     ensures { Divides weight entry result }
 {
-    let d = division::divide(u64_to_i64(entry), weight);
-    let whole = i64_to_u64(d.whole);
+    let d = division::divide(entry as i64, weight);
+    let whole = d.whole as u64;
     let rest = d.rest;
     if rest == 0 {
         return Divided {

@@ -11,7 +11,6 @@ ghost use Rattle.variance_text.specs.Write.{max_line, Prints};
 
 use crate::Printed;
 use covariances::LIFT;
-use opening::Opened;
 use opening::open::open;
 use printing::line::print_refusal;
 use printing::write::{put_byte, put_decimal, put_number};
@@ -66,14 +65,14 @@ pub fn print_variances(number: u64, plan: &[u8], out: &mut [u8]) -> Printed
 {
     let opened = open(plan);
     match opened {
-        Opened::Refused(x) => {
+        Err(x) => {
             let written = print_refusal(x, out, 0);
             Printed {
                 written,
                 go_on: false,
             }
         }
-        Opened::Plan(s) => {
+        Ok(s) => {
             let n = measure(plan, s);
             let written = print_line(number, n, out);
             Printed {

@@ -12,11 +12,9 @@ ghost use Rattle.variances.specs.Clauses.{numerators_of, WriteReady};
 
 use crate::Numerators;
 use crate::measure::measure;
-use base::convert::u64_to_i64;
 use covariances::LIFT;
-use opening::Opened;
 use opening::open::open;
-use refusals::{Answer, Refusal};
+use refusals::Refusal;
 
 // The one number less the other, with its sign.
 fn difference(x: i64, y: i64) -> i64
@@ -31,7 +29,7 @@ fn lowered(x: u64) -> i64
     requires { x ≤ 2 * lift }
     ensures { result ≡ sub_ℕ x lift }
 {
-    difference(u64_to_i64(x), u64_to_i64(LIFT))
+    difference(x as i64, LIFT as i64)
 }
 
 // Writes the three numerators.
@@ -39,7 +37,7 @@ fn write_numerators(n: Numerators, out: &mut [i64])
     requires { WriteReady n out.old }
     ensures { out.new ≡ numerators_of n ++ drop 3 out.old }
 {
-    let variances = u64_to_i64(n.variances);
+    let variances = n.variances as i64;
     let smallest = lowered(n.smallest);
     let largest = lowered(n.largest);
     out[0] = variances;
@@ -48,20 +46,15 @@ fn write_numerators(n: Numerators, out: &mut [i64])
 }
 
 // Writes the sum of all cell variances, the smallest and the largest covariance of two different cells, or returns the lowest refusal that applies.
-pub fn variances(plan: &[u8], out: &mut [i64]) -> Answer
+pub fn variances(plan: &[u8], out: &mut [i64]) -> Result<(), Refusal>
     ensures { Answers (part_refusal plan.now 3 (length out.old))
         (numerators (decode plan.now) ++ drop 3 out.old) out.old result out.new }
 {
-    let opened = open(plan);
-    match opened {
-        Opened::Refused(x) => Answer::Refused(x),
-        Opened::Plan(s) => {
-            if out.len() < 3 {
-                return Answer::Refused(Refusal::Buffer);
-            }
-            let n = measure(plan, s);
-            write_numerators(n, out);
-            Answer::Done
-        }
+    let s = open(plan)?;
+    if out.len() < 3 {
+        return Err(Refusal::Buffer);
     }
+    let n = measure(plan, s);
+    write_numerators(n, out);
+    Ok(())
 }

@@ -7,7 +7,6 @@ ghost use Rattle.variances.specs.Variance.{rounding_variance};
 ghost use Rattle.variances.specs.Clauses.{Measured, DenominatorWithin, SumReady, VariancesOf};
 
 use crate::Numerators;
-use base::wide;
 use covariances::pairs::extremes;
 use form::Sizes;
 use reading::read_table;
@@ -18,8 +17,8 @@ fn cell_variance(d: u32, g: u32) -> u64
     requires { DenominatorWithin d }
     ensures { Widened 4294967296 (rounding_variance d g) result }
 {
-    let denominator = wide(d);
-    let divided = divide(wide(g), denominator);
+    let denominator = u64::from(d);
+    let divided = divide(u64::from(g), denominator);
     let f = divided.rest;
     f * (denominator - f)
 }

@@ -6,46 +6,39 @@ use byte_numbers::read::two;
 use form::layout::{amount, offset};
 use table::Table;
 
-// What a reader finds.
-#[derive(Clone, Copy)]
-pub enum Reading {
-    Value(u32),
-    Missing,
-}
-
 // The weight beside array k's offset, from 1 on.
-pub fn find_weight(plan: &[u8], k: usize) -> Reading
+pub fn find_weight(plan: &[u8], k: usize) -> Option<u32>
     ensures { result ≡ found_weight plan.now k }
 {
     if (Table::MAX_ARRAYS as usize) < k {
-        return Reading::Missing;
+        return None;
     }
     if plan.len() < 16 + 8 * k {
-        return Reading::Missing;
+        return None;
     }
-    Reading::Value(amount(plan, k))
+    Some(amount(plan, k))
 }
 
 // Count i, from 0 on, in the body that array k's offset, from 1 on, points to.
-pub fn find_count(plan: &[u8], k: usize, i: usize) -> Reading
+pub fn find_count(plan: &[u8], k: usize, i: usize) -> Option<u32>
     ensures { result ≡ found_count plan.now k i }
 {
     if (Table::MAX_ARRAYS as usize) < k {
-        return Reading::Missing;
+        return None;
     }
     if plan.len() < 16 + 8 * k {
-        return Reading::Missing;
+        return None;
     }
     if (Table::MAX_CELLS as usize) <= i {
-        return Reading::Missing;
+        return None;
     }
     let end = 2 * i + 2;
     let at = offset(plan, k);
     if plan.len() < end {
-        return Reading::Missing;
+        return None;
     }
     if plan.len() - end < at {
-        return Reading::Missing;
+        return None;
     }
-    Reading::Value(two(&plan[at..], 2 * i) as u32)
+    Some(two(&plan[at..], 2 * i) as u32)
 }

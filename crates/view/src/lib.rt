@@ -8,7 +8,6 @@ ghost use Rattle.view.specs.View.{summary_of, has_cell, weight_answer, count_ans
 ghost use Rattle.view.specs.Examples.{summaries, summaries_found, weights, weights_found, places, count_found};
 
 use crate::find::{Reading, find_count, find_weight};
-use opening::Opened;
 use opening::open::open;
 use table::Table;
 
@@ -37,14 +36,14 @@ fn summarize(plan: &[u8]) -> Summary
 {
     let opened = open(plan);
     match opened {
-        Opened::Plan(s) => Summary {
+        Ok(s) => Summary {
             refusal: 0,
             rows: s.rows,
             columns: s.columns,
             arrays: s.arrays,
             denominator: s.denominator,
         },
-        Opened::Refused(x) => Summary {
+        Err(x) => Summary {
             refusal: refusals::number(x),
             rows: 0,
             columns: 0,
@@ -81,24 +80,24 @@ fn has_cell(s: Summary, p: usize, q: usize) -> bool
 }
 
 // The weight of array k.
-fn weight_in(plan: &[u8], s: Summary, k: usize) -> Reading
+fn weight_in(plan: &[u8], s: Summary, k: usize) -> Option<u32>
     ensures { result ≡ weight_answer plan.now s k }
 {
     if !has_array(s, k) {
-        return Reading::Missing;
+        return None;
     }
     find_weight(plan, k)
 }
 
 // The count of array k in row p and column q.
-fn count_in(plan: &[u8], s: Summary, k: usize, p: usize, q: usize) -> Reading
+fn count_in(plan: &[u8], s: Summary, k: usize, p: usize, q: usize) -> Option<u32>
     ensures { result ≡ count_answer plan.now s k p q }
 {
     if !has_array(s, k) {
-        return Reading::Missing;
+        return None;
     }
     if !has_cell(s, p, q) {
-        return Reading::Missing;
+        return None;
     }
     find_count(plan, k, p * s.columns + q)
 }
@@ -119,14 +118,14 @@ pub fn view_of<'a>(plan: &'a [u8]) -> View<'a>
 }
 
 // The weight of array k, from 1 on.
-pub fn weight<'a>(v: View<'a>, k: usize) -> Reading
+pub fn weight<'a>(v: View<'a>, k: usize) -> Option<u32>
     ensures { result ≡ weight_answer v.entry.bytes.now v.entry.found k }
 {
     weight_in(v.bytes, v.found, k)
 }
 
 // The count of array k, from 1 on, in row p and column q, from 0 on.
-pub fn count<'a>(v: View<'a>, k: usize, p: usize, q: usize) -> Reading
+pub fn count<'a>(v: View<'a>, k: usize, p: usize, q: usize) -> Option<u32>
     ensures { result ≡ count_answer v.entry.bytes.now v.entry.found k p q }
 {
     count_in(v.bytes, v.found, k, p, q)

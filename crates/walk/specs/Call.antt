@@ -1,5 +1,5 @@
 -- The two calls of a walk (specification, "The walk" and "Refusals"). Assumes nothing.
-use Rattle.std.specs.Prelude.{Bool, not, ◌&&◌, List, [], ◌∷◌, ◌++◌, ℕ, ◌*◌, length, leb, ltb, Option, Some, None}
+use Rattle.std.specs.Prelude.{Bool, not, ◌&&◌, List, [], ◌∷◌, ◌++◌, ℕ, ◌*◌, length, leb, ltb, Option, Some, None, Result, Ok, Err}
 use Rattle.refusals.specs.declared.Refusal.{Refusal}
 use Rattle.refusals.specs.declared.Refusal.TheVariants.{LargeCell, Buffer, WalkSize, NotRounding}
 use Rattle.refusals.specs.Numbers.{number_of}
@@ -8,7 +8,7 @@ use Rattle.table.specs.Check.{cells_within, size_test, denominator_test, count_t
 use Rattle.is_rounding.specs.Rounding.{two_ways, is_rounding}
 use Rattle.next_rounding.specs.Next.{next_rounding, written_if}
 use Rattle.walk.specs.declared.Step.{Step}
-use Rattle.walk.specs.declared.Step.TheVariants.{Next, Last, Refused}
+use Rattle.walk.specs.declared.Step.TheVariants.{Next, Last}
 
 -- a table for a walk has at most 4 rows and 4 columns
 abbrev pub max_side : ℕ
@@ -47,20 +47,21 @@ next_tests r c d g n room = walk_tests r c d g ++ array_tests r c d g n room
 unfoldable pub next_refusal : ℕ → ℕ → ℕ → List ℕ → List ℕ → ℕ → Option Refusal
 next_refusal r c d g n room = due (next_tests r c d g n room)
 
--- its answer: what is due; and where nothing is, whether an array follows
+-- what it does where nothing is due: it writes the array that follows, if one does
 abbrev pub step_of : Option (List ℕ) → Step
 step_of (Some k) = Next
 step_of None = Last
 
-unfoldable pub next_answer : ℕ → ℕ → ℕ → List ℕ → List ℕ → ℕ → Step
-next_answer r c d g n room = refused_or Refused (step_of (next_rounding r c d g n)) (next_refusal r c d g n room)
+-- its answer: that, or what is due
+unfoldable pub next_answer : ℕ → ℕ → ℕ → List ℕ → List ℕ → ℕ → Result Step Refusal
+next_answer r c d g n room = refused_or Err (Ok (step_of (next_rounding r c d g n))) (next_refusal r c d g n room)
 
 -- what it leaves in a buffer: the array that follows and what stood beyond it, or the buffer as it was
 unfoldable pub next_left : ℕ → ℕ → ℕ → List ℕ → List ℕ → List ℕ → List ℕ
 next_left r c d g n buffer = after (next_refusal r c d g n (length buffer)) (written_if (next_rounding r c d g n) buffer) buffer
 
 -- the number that each answer stands for: 0 for an array that was written, 255 where the array handed in was the last, else the refusal's
-abbrev pub step_number : Step → ℕ
-step_number Next = 0
-step_number Last = 255
-step_number (Refused x) = number_of x
+abbrev pub step_number : Result Step Refusal → ℕ
+step_number (Ok Next) = 0
+step_number (Ok Last) = 255
+step_number (Err x) = number_of x

@@ -11,20 +11,19 @@ ghost use Rattle.walk.specs.Examples.{firsts, first_says, steps, step_says, said
 
 use is_rounding::is_rounding;
 use next_rounding::write_next;
-use refusals::{Answer, Refusal};
+use refusals::Refusal;
 use rounding::round;
-use table::Checked;
+use table::Table;
 use table::check::{check, size_within};
 
 // the most rows, and the most columns, of a table for a walk
 pub const MAX_SIDE: u32 = 4;
 
-// What the second call answers: the next array was written, the array handed in was the last, or why the call was refused.
-#[derive(Clone, Copy)]
+// What an accepted second call did: it wrote the next array, or the array handed in was the last.
+#[derive(Clone, Copy, Debug, PartialEq, Eq)]
 pub enum Step {
     Next,
     Last,
-    Refused(Refusal),
 }
 
 // Whether rows and columns are few enough: else 15.
@@ -38,28 +37,28 @@ fn walk_within(rows: u32, columns: u32) -> bool
 }
 
 // The table's sizes, or the first refusal that applies.
-fn check_small(rows: u32, columns: u32, denominator: u32, cells: &[u32]) -> Checked
+fn check_small(rows: u32, columns: u32, denominator: u32, cells: &[u32]) -> Result<Table, Refusal>
     ensures { result ≡ walk_check rows columns denominator cells.now }
 {
     if !size_within(rows, columns) {
-        return Checked::Refused(Refusal::Size);
+        return Err(Refusal::Size);
     }
     if !walk_within(rows, columns) {
-        return Checked::Refused(Refusal::WalkSize);
+        return Err(Refusal::WalkSize);
     }
     check(rows, columns, denominator, cells)
 }
 
 // Writes the first controlled rounding of a table, or returns the first refusal that applies.
-pub fn first(rows: u32, columns: u32, denominator: u32, cells: &[u32], counts: &mut [u16]) -> Answer
+pub fn first(rows: u32, columns: u32, denominator: u32, cells: &[u32], counts: &mut [u16]) -> Result<(), Refusal>
     ensures { Answers (first_refusal rows columns denominator cells.now (length counts.old))
         (written (first_rounding rows columns denominator cells.now) counts.old) counts.old result counts.new }
 {
     if !size_within(rows, columns) {
-        return Answer::Refused(Refusal::Size);
+        return Err(Refusal::Size);
     }
     if !walk_within(rows, columns) {
-        return Answer::Refused(Refusal::WalkSize);
+        return Err(Refusal::WalkSize);
     }
     round(rows, columns, denominator, cells, counts)
 }
@@ -72,36 +71,31 @@ pub fn next(
     cells: &[u32],
     array: &[u16],
     counts: &mut [u16],
-) -> Step
+) -> Result<Step, Refusal>
     ensures answer { result ≡ next_answer rows columns denominator cells.now array.now (length counts.old) }
     ensures buffer { counts.new ≡ next_left rows columns denominator cells.now array.now counts.old }
 {
-    let checked = check_small(rows, columns, denominator, cells);
-    match checked {
-        Checked::Refused(x) => Step::Refused(x),
-        Checked::Accepted(t) => {
-            if !is_rounding(t, cells, array) {
-                return Step::Refused(Refusal::NotRounding);
-            }
-            if counts.len() < t.rows * t.columns {
-                return Step::Refused(Refusal::Buffer);
-            }
-            if write_next(t, cells, array, counts) {
-                return Step::Next;
-            }
-            Step::Last
-        }
+    let t = check_small(rows, columns, denominator, cells)?;
+    if !is_rounding(t, cells, array) {
+        return Err(Refusal::NotRounding);
     }
+    if counts.len() < t.rows * t.columns {
+        return Err(Refusal::Buffer);
+    }
+    if write_next(t, cells, array, counts) {
+        return Ok(Step::Next);
+    }
+    Ok(Step::Last)
 }
 
 // The number of an answer of the second call.
-pub fn step_number(s: Step) -> u32
+pub fn step_number(s: Result<Step, Refusal>) -> u32
     ensures { result ≡ step_number s }
 {
     match s {
-        Step::Next => 0,
-        Step::Last => 255,
-        Step::Refused(x) => refusals::number(x),
+        Ok(Step::Next) => 0,
+        Ok(Step::Last) => 255,
+        Err(x) => u32::from(x),
     }
 }
 

@@ -5,17 +5,15 @@ ghost use Rattle.std.specs.Prelude.{◌≡◌, ◌≤◌, length};
 ghost use Rattle.table.specs.Table.{max_cells};
 ghost use Rattle.weighted_arrays.specs.Clauses.{Addable, Increased, cells_met};
 
-use base::convert::u16_to_u64;
-use base::wide;
 
 // Adds an array times a factor to some sums, one a cell.
 pub fn add_weighted(factor: u32, counts: &[u16], sums: &mut [u64; 144])
     requires { Addable counts.now sums.old }
     ensures { Increased factor counts.now sums.old sums.new }
 {
-    let f = wide(factor);
+    let f = u64::from(factor);
     for i in 0..counts.len() {
-        sums[i] = sums[i] + f * u16_to_u64(counts[i]);
+        sums[i] = sums[i] + f * u64::from(counts[i]);
     }
 }
 
@@ -26,7 +24,7 @@ pub fn cells_met(cells: &[u32], sums: &[u64; 144]) -> bool
 {
     let mut i = 0;
     while i < cells.len() {
-        if sums[i] != wide(cells[i]) {
+        if sums[i] != u64::from(cells[i]) {
             return false;
         }
         i += 1;
