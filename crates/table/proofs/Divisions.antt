@@ -4,26 +4,23 @@ use Prim.Native.Nat.{ℕ, ◌/◌, ◌%◌}
 use native.Mathlib.Nat.{div-le_self}
 use native.Mathlib.Omega.{arith}
 use lib.Dec.{le→leb}
-use lib.IntN.{ℤ, pos}
+use lib.IntN.{pos, nat_abs}
 use lib.Signed.{◌≤ℤ◌, le_z_yes}
 use mir.Syntax.{w64}
-use mir.Val.{SFits}
+use mir.Val.{SFits, to_z}
 use mir.Facts.{to_z-of_z}
-use Rattle.base.proofs.Signs.{there}
+use Rattle.base.proofs.Signs.{there, signed_is}
 use Rattle.division.specs.Clauses as signed
 use Rattle.division.specs.declared.Divided as signed-declared
 use Rattle.table.specs.Clauses.{Dividable, Divides}
 use Rattle.table.proofs.Roundings.{gap_whole, gap_part}
 
-module _ {w e : ℕ} (a : Dividable w e) {z : ℤ} (is : z ≡ pos e) {d : signed-declared.Divided} (q : signed.Divides w (there z) d) where
-  entry_there : there z ≡ pos e
-  entry_there = ap there is ∙ to_z-of_z {w = w64} (record { sfits = a.small })
-
+module _ {w e : ℕ} (a : Dividable w e) {d : signed-declared.Divided} (q : signed.Divides w (to_z w64 e) d) where
   quotient : d.whole ≡ pos (e / w)
-  quotient = rw entry_there at q.whole_is
+  quotient = rw (signed_is e a.small) at q.whole_is
 
   left : d.rest ≡ e % w
-  left = rw entry_there at q.rest_is
+  left = rw (signed_is e a.small) at q.rest_is
 
   fits : SFits w64 (pos (e / w))
   fits = record { sfits = omega (arith, a.small, div-le_self e w) }
@@ -34,12 +31,8 @@ module _ {w e : ℕ} (a : Dividable w e) {z : ℤ} (is : z ≡ pos e) {d : signe
   pub quotient_natural : pos 0 ≤ℤ there d.whole
   quotient_natural = rw back (le_z_yes (le→leb 0 (e / w) (omega arith)))
 
-  module _ {n : ℕ} (p : pos n ≡ there d.whole) where
-    natural_quotient : n ≡ e / w
-    natural_quotient = let s : pos n ≡ pos (e / w) = p ∙ back in cc
+  pub divided_whole : d.rest ≡ 0 → Divides w e (record { whole = nat_abs (there d.whole); rest = d.rest; gap = 0 })
+  divided_whole h = record { whole_is = ap nat_abs back; rest_is = left; gap_is = sym (gap_whole w e (sym left ∙ h)) }
 
-    pub divided_whole : d.rest ≡ 0 → Divides w e (record { whole = n; rest = d.rest; gap = 0 })
-    divided_whole h = record { whole_is = natural_quotient; rest_is = left; gap_is = sym (gap_whole w e (sym left ∙ h)) }
-
-    pub divided_part : (d.rest ≡ 0 → ⊥) → Divides w e (record { whole = n; rest = d.rest; gap = 1 })
-    divided_part h = record { whole_is = natural_quotient; rest_is = left; gap_is = sym (gap_part w e (λ k. h (left ∙ k))) }
+  pub divided_part : (d.rest ≡ 0 → ⊥) → Divides w e (record { whole = nat_abs (there d.whole); rest = d.rest; gap = 1 })
+  divided_part h = record { whole_is = ap nat_abs back; rest_is = left; gap_is = sym (gap_part w e (λ k. h (left ∙ k))) }

@@ -1,9 +1,8 @@
 use Rattle.table.proofs.Divisions.{divided_whole, divided_part}
-use borrow.Author.Rules.{rules}
 use Rattle.table.proofs.whole.divide.Goals as goal
 
 pub returns-then-rest-eq0 : goal.returns-then-rest-eq0
-returns-then-rest-eq0 c = search (rules, divided_whole)
+returns-then-rest-eq0 c = divided_whole c.requires c.divide-d.ensures c.if-rest-eq0.true
 
 pub returns : goal.returns
-returns c = search (rules, divided_part)
+returns c = divided_part c.requires c.divide-d.ensures c.if-rest-eq0.false
