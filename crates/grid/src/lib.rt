@@ -1,7 +1,7 @@
 // The entries of a table in a grid of 13 by 13, the totals in row and column 12, whatever the table's size.
 #![tactic(auto)]
 
-ghost use Rattle.std.specs.Prelude.{◌≡◌, List, map, ℕ, get_or};
+ghost use Rattle.std.specs.Prelude.{◌≡◌, List, map, ℕ, get_or, Ok};
 ghost use Rattle.table.specs.Table.{entries};
 ghost use Rattle.grid.specs.Clauses.{grid_at, grid_of, grid_order};
 ghost use Rattle.table.specs.Clauses.{Shape, check_of};
@@ -53,6 +53,6 @@ pub fn entries(t: Table, cells: &[u32]) -> [u64; 169]
 
 // What holds of every accepted table: the grid has its entries, in their order, at the places of `grid_order`.
 pub fn in_order()
-    ensures { (r c d : ℕ) (g : List ℕ) (t : Table) → Checked.Accepted t ≡ check_of r c d g
+    ensures { (r c d : ℕ) (g : List ℕ) (t : Table) → Ok t ≡ check_of r c d g
         → entries r c g ≡ map (λ k. get_or (grid_of r c g) k 0) (grid_order r c) }
 {}

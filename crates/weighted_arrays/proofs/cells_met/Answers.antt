@@ -4,7 +4,7 @@ use Rattle.weighted_arrays.proofs.cells_met.Goals as goal
 
 pub returns-then-sums-i : goal.returns-then-sums-i
 returns-then-sums-i c =
-    cell_unmet _ _ c.wide.ensures.is c.loop-i-test.true c.if-sums-i.true
+    cell_unmet _ _ c.from.ensures c.loop-i-test.true c.if-sums-i.true
 
 pub returns : goal.returns
 returns c = search (rules, cells_all_met)
