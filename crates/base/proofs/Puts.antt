@@ -39,6 +39,11 @@ pub put_start : (old m : List ℕ) → put_at old 0 m ≡ written m old
 unfolding put_at
 put_start old m = rw (zero-add (length m)) refl
 
+-- copied over the part of a slice that begins at a place and has as many elements
+pub put_part : (old new : List ℕ) (at n : ℕ) → length new ≡ n → take at old ++ (new ++ drop n (drop at old)) ≡ put_at old at new
+unfolding put_at
+put_part old new at n e = rw (drop-drop n at old, ← e) (sym (append_assoc (take at old) new _))
+
 -- one number
 pub put_one : (old : List ℕ) (at x : ℕ) → at + 1 ≤ length old → set old at x ≡ put_at old at (x ∷ [])
 unfolding put_at

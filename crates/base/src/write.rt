@@ -7,8 +7,5 @@ pub fn write_four(a: u32, b: u32, c: u32, d: u32, buffer: &mut [u32])
     requires { 4 ≤ length buffer.old }
     ensures { buffer.new ≡ written (a ∷ b ∷ c ∷ d ∷ []) buffer.old }
 {
-    buffer[0] = a;
-    buffer[1] = b;
-    buffer[2] = c;
-    buffer[3] = d;
+    buffer[..4].copy_from_slice(&[a, b, c, d]);
 }

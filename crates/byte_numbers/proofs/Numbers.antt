@@ -1,31 +1,22 @@
 -- Laws on numbers in bytes, low byte first. Assumes nothing.
 use mathlib.Core.Path.{◌≡◌, refl, ap, ◌∙◌}
-use mathlib.Core.List.{List}
-use Prim.Native.Nat.{ℕ, zero, suc, ◌+◌, ◌*◌, ◌-◌, ◌^◌, ◌<◌, ◌≤◌}
-use native.Mathlib.Nat.{add-zero, zero-add, suc-add, one-mul, mul_assoc, pow-zero, pow-succ'}
+use mathlib.Core.List.{List, [], ◌∷◌}
+use Prim.Native.Nat.{ℕ, zero, suc, ◌+◌, ◌-◌, ◌<◌, ◌≤◌}
+use native.Mathlib.Nat.{add_assoc}
 use native.Mathlib.Omega.{arith}
 use lib.ListN.{length, get_or, take, drop, length-drop}
 use lib.Seq.{get_or-drop, take_all}
+use Rattle.std.specs.Int.{w16, w32, from_le_bytes}
 use Rattle.byte_numbers.specs.Bytes.{number}
 
-pub number_byte : (s : List ℕ) (at : ℕ) → get_or s at 0 ≡ number 1 s at
+-- std's number of two bytes, and of four
+pub number_two : (s : List ℕ) (at : ℕ) → from_le_bytes w16 (get_or s at 0 ∷ get_or s (at + 1) 0 ∷ []) ≡ number 2 s at
 unfolding number
-number_byte s at = omega arith
+number_two s at = omega arith
 
--- a number of m + n bytes is one of m bytes and one of n bytes after it
-pub number_split : (m n : ℕ) (s : List ℕ) (at : ℕ) → number (m + n) s at ≡ number m s at + 256 ^ m * number n s (at + m)
+pub number_four : (s : List ℕ) (at : ℕ) → from_le_bytes w32 (get_or s at 0 ∷ get_or s (at + 1) 0 ∷ get_or s (at + 2) 0 ∷ get_or s (at + 3) 0 ∷ []) ≡ number 4 s at
 unfolding number
-number_split zero n s at = simp (zero-add, add-zero, pow-zero, one-mul)
-number_split (suc m) n s at =
-    let i : number n s (at + 1 + m) ≡ number n s (at + suc m) = ap (number n s) (omega arith) in
-    let p : 256 * 256 ^ m * number n s (at + suc m) ≡ 256 * (256 ^ m * number n s (at + suc m)) = mul_assoc 256 (256 ^ m) _ in
-    rw (suc-add m n, pow-succ' 256 m) (omega (arith, number_split m n s (at + 1), ap (λ (x : ℕ). 256 ^ m * x) i))
-
-pub number_two : (s : List ℕ) (at low high : ℕ) → low ≡ number 1 s at → high ≡ number 1 s (at + 1) → low + 256 * high ≡ number 2 s at
-number_two s at low high l h = omega (arith, number_split 1 1 s at)
-
-pub number_four : (s : List ℕ) (at low high : ℕ) → low ≡ number 2 s at → high ≡ number 2 s (at + 2) → low + 65536 * high ≡ number 4 s at
-number_four s at low high l h = omega (arith, number_split 2 2 s at)
+number_four s at = simp add_assoc (omega arith)
 
 -- two bytes hold at most 65,535
 pub number_small : (s : List ℕ) → ((k : ℕ) → get_or s k 0 < 256) → (at : ℕ) → number 2 s at < 65536
@@ -34,7 +25,8 @@ number_small s bytes at = omega (arith, bytes at, bytes (at + 1))
 
 -- and four at most 4,294,967,295
 pub number_four_small : (s : List ℕ) → ((k : ℕ) → get_or s k 0 < 256) → (at : ℕ) → number 4 s at < 4294967296
-number_four_small s bytes at = omega (arith, number_split 2 2 s at, number_small s bytes at, number_small s bytes (at + 2))
+unfolding number
+number_four_small s bytes at = omega (arith, bytes at, bytes (at + 1), bytes (at + 1 + 1), bytes (at + 1 + 1 + 1))
 
 -- a number in the bytes from k on
 pub number_drop : (n k : ℕ) (s : List ℕ) (at : ℕ) → number n (drop k s) at ≡ number n s (k + at)

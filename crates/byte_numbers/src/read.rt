@@ -15,9 +15,7 @@ pub fn two(s: &[u8], at: usize) -> u16
     requires { at + 2 ≤ length s.now }
     ensures { result ≡ number 2 s.now at }
 {
-    let low = one(s, at) as u16;
-    let high = one(s, at + 1) as u16;
-    low + 256 * high
+    u16::from_le_bytes([s[at], s[at + 1]])
 }
 
 // The number in the four bytes from a place on.
@@ -25,7 +23,5 @@ pub fn four(s: &[u8], at: usize) -> u32
     requires { at + 4 ≤ length s.now }
     ensures { result ≡ number 4 s.now at }
 {
-    let low = two(s, at) as u32;
-    let high = two(s, at + 2) as u32;
-    low + 65536 * high
+    u32::from_le_bytes([s[at], s[at + 1], s[at + 2], s[at + 3]])
 }

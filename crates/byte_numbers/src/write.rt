@@ -16,8 +16,7 @@ pub fn put2(x: u16, at: usize, plan: &mut [u8])
     requires { at + 2 ≤ length plan.old }
     ensures { plan.new ≡ put_at plan.old at (bytes 2 x) }
 {
-    put1((x % 256) as u8, at, plan);
-    put1((x / 256) as u8, at + 1, plan);
+    plan[at..at + 2].copy_from_slice(&x.to_le_bytes());
 }
 
 // Puts a number at a place in four bytes, low byte first.
@@ -25,6 +24,5 @@ pub fn put4(x: u32, at: usize, plan: &mut [u8])
     requires { at + 4 ≤ length plan.old }
     ensures { plan.new ≡ put_at plan.old at (bytes 4 x) }
 {
-    put2((x % 65536) as u16, at, plan);
-    put2((x / 65536) as u16, at + 2, plan);
+    plan[at..at + 4].copy_from_slice(&x.to_le_bytes());
 }

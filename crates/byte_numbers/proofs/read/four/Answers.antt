@@ -1,5 +1,5 @@
-use Rattle.byte_numbers.proofs.Numbers.{number_four}
 use borrow.Author.Rules.{rules}
+use Rattle.byte_numbers.proofs.Numbers.{number_four}
 use Rattle.byte_numbers.proofs.read.four.Goals as goal
 
 pub returns : goal.returns

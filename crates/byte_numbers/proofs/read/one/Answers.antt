@@ -1,6 +1,7 @@
-use Rattle.byte_numbers.proofs.Numbers.{number_byte}
-use borrow.Author.Rules.{rules}
+use Rattle.std.proofs.Common.{arith}
+use Rattle.byte_numbers.specs.Bytes.{number}
 use Rattle.byte_numbers.proofs.read.one.Goals as goal
 
 pub returns : goal.returns
-returns c = search (rules, number_byte)
+unfolding number
+returns c = omega arith

@@ -1,5 +1,5 @@
-use Rattle.byte_numbers.proofs.Numbers.{number_two}
 use borrow.Author.Rules.{rules}
+use Rattle.byte_numbers.proofs.Numbers.{number_two}
 use Rattle.byte_numbers.proofs.read.two.Goals as goal
 
 pub returns : goal.returns
