@@ -1,15 +1,14 @@
 -- Some entries, kind by kind, and the loops over them. Assumes nothing.
 use mathlib.Core.Path.{◌≡◌, refl, sym, ap, ◌∙◌}
-use mathlib.Core.Bool.{Bool, true, false, cond}
+use mathlib.Core.Bool.{Bool, true, false, not, cond, ◌&&◌}
 use mathlib.Core.List.{List, []}
-use Prim.Native.Nat.{ℕ, ◌+◌, ◌-◌, ◌*◌, ◌<◌, ◌≤◌}
+use Prim.Native.Nat.{ℕ, ◌+◌, ◌*◌, ◌<◌, ◌≤◌}
 use native.Mathlib.Nat.{zero-add, add-zero, mul-one, mul-le-mul, mul-le-mul_right, le_trans, div-le_of_le-mul}
 use native.Mathlib.Omega.{arith}
 use lib.ListN.{length, get_or, set}
 use lib.Dec.{eqb}
-use mir.Val.{Fits}
+use mir.Val.{Fits, bool_byte}
 use mir.Syntax.{w32, w64}
-use borrow.Author.Tests.{le-leb, lt-leb}
 use Rattle.base.specs.Lists.{every}
 use Rattle.base.specs.Clauses.{Filled}
 use Rattle.base.proofs.SumLoops.{Summed, summed_none, summed_more, summed_all}
@@ -24,25 +23,24 @@ use Rattle.table.proofs.Totals.{reach_row, reach_column, reach_one, reach_all}
 use Rattle.table.proofs.EntryBounds.{total_at_most}
 use Rattle.table.proofs.Roundings.{gap_le}
 use Rattle.is_rounding.specs.declared.Lines.{Lines}
-use Rattle.is_rounding.specs.Clauses.{line_places, cell_lines, row_lines, column_lines, grand_lines, Placed, Cells, Room, BoundsFrom, entry_of, Bounds, between, one_outside, lines_between, entries_between}
+use Rattle.is_rounding.specs.Clauses.{line_places, cell_lines, row_lines, column_lines, grand_lines, Placed, Cells, Room, BoundsFrom, entry_of, Bounds, between, lines_between, entries_between}
 
 -- the entries of a kind stand from a place on among some entries
 pub record Stands (entries : List (List ℕ)) (k : Lines) (from : ℕ) : Type 0 where
   pub at : (l : ℕ) → l < k.count → get_or entries (from + l) [] ≡ line_places k l
-  pub inside : from + k.count ≤ length entries
 
 module _ (r c : ℕ) where
   pub stands_cells : Stands (entry_places r c) (cell_lines (r * c)) 0
-  stands_cells = record { at = λ l h. rw (zero-add l, mul-one l) (cell_at r c l h); inside = omega (arith, entries_length r c) }
+  stands_cells = record { at = λ l h. rw (zero-add l, mul-one l) (cell_at r c l h) }
 
   pub stands_rows : Stands (entry_places r c) (row_lines r c) (r * c)
-  stands_rows = record { at = row_at r c; inside = omega (arith, entries_length r c) }
+  stands_rows = record { at = row_at r c }
 
   pub stands_columns : Stands (entry_places r c) (column_lines r c) (r * c + r)
-  stands_columns = record { at = λ l h. rw (mul-one l) (column_at r c l h); inside = omega (arith, entries_length r c) }
+  stands_columns = record { at = λ l h. rw (mul-one l) (column_at r c l h) }
 
   pub stands_grand : Stands (entry_places r c) (grand_lines (r * c)) (r * c + r + c)
-  stands_grand = record { at = λ l h. let z : l ≡ 0 = omega arith in rw (z, add-zero (r * c + r + c)) (grand_at r c); inside = omega (arith, entries_length r c) }
+  stands_grand = record { at = λ l h. let z : l ≡ 0 = omega arith in rw (z, add-zero (r * c + r + c)) (grand_at r c) }
 
 -- each kind lies among the cells
 module _ {r c : ℕ} {g : List ℕ} (s : Shape r c g) where
@@ -116,8 +114,8 @@ module _ {k : Lines} {from l d : ℕ} {g : List ℕ} (p : Placed k from (length 
     gap_is : q.gap ≡ gap d (total g (line_places k l))
     gap_is = i.gap_is ∙ ap (gap d) e
 
-    pub whole_fits : q.whole ≤ 4294967295
-    whole_fits = omega (arith, whole_is, whole_small)
+    pub whole_fits : Fits w32 q.whole
+    whole_fits = record { fits = omega (arith, whole_is, whole_small) }
 
     module _ {v : ℕ} (j : v ≡ q.gap) where
       pub up_is : q.whole + v ≡ up d (total g (line_places k l))
@@ -126,8 +124,8 @@ module _ {k : Lines} {from l d : ℕ} {g : List ℕ} (p : Placed k from (length 
       pub up_sum : Fits w64 (q.whole + v)
       up_sum = record { fits = omega (arith, up_is, whole_small, gap_le d (total g (line_places k l))) }
 
-      pub up_fits : q.whole + v ≤ 4294967295
-      up_fits = omega (arith, up_is, whole_small, gap_le d (total g (line_places k l)))
+      pub up_fits : Fits w32 (q.whole + v)
+      up_fits = record { fits = omega (arith, up_is, whole_small, gap_le d (total g (line_places k l))) }
 
 -- a loop over the lines of a kind
 pub bounds_none : (d : ℕ) (f : ℕ → ℕ) (from : ℕ) (low high : List ℕ) → BoundsFrom d f from low high low high 0
@@ -179,20 +177,6 @@ cells_bounds r c d g {a} {b} q = rw (zero-add (r * c)) at (kind_bounds (record {
 abbrev line_between : List ℕ → List ℕ → List ℕ → Lines → ℕ → ℕ → Bool
 line_between n low high k from l = between (get_or low (from + l) 0) (get_or high (from + l) 0) (total n (line_places k l))
 
--- a number between its bounds, and one that is not
-module _ (low high x : ℕ) where
-  pub one_below : x < low → 1 ≡ one_outside low high x
-  unfolding one_outside
-  one_below h = simp (lt-leb low x h)
-
-  pub one_above : low ≤ x → high < x → 1 ≡ one_outside low high x
-  unfolding one_outside
-  one_above h l = simp (le-leb low x h, lt-leb x high l)
-
-  pub none_outside : low ≤ x → x ≤ high → 0 ≡ one_outside low high x
-  unfolding one_outside
-  none_outside h l = simp (le-leb low x h, le-leb x high l)
-
 -- s is how many of the first l entries of a kind are not
 pub record Outside (n low high : List ℕ) (k : Lines) (from l s : ℕ) : Type 0 where
   pub sum : Summed (λ i. cond (line_between n low high k from i) 0 1) 2 l s
@@ -204,20 +188,20 @@ outside_small : (b : Bool) → cond b 0 1 < 2
 outside_small true = omega arith
 outside_small false = omega arith
 
+outside_byte : (b : Bool) → bool_byte (not b) ≡ cond b 0 1
+outside_byte true = refl
+outside_byte false = refl
+
 none_so : (b : Bool) → b ≡ eqb (cond b 0 1) 0
 none_so true = refl
 none_so false = refl
 
 module _ {n low high : List ℕ} {k : Lines} {from l s : ℕ} (m : Outside n low high k from l s) where
-  pub outside_more : {x y : ℕ} → x ≡ total n (line_places k l) → y ≡ one_outside (get_or low (from + l) 0) (get_or high (from + l) 0) x → Outside n low high k from (l + 1) (s + y)
-  unfolding one_outside
-  outside_more {x} {y} e q =
-      let is : y ≡ cond (line_between n low high k from l) 0 1 = rw e at q in
+  pub outside_more : {x y : ℕ} {v : Bool} → x ≡ total n (line_places k l) → v ≡ between (get_or low (from + l) 0) (get_or high (from + l) 0) x → y ≡ bool_byte (not v)
+      → Outside n low high k from (l + 1) (s + y)
+  outside_more {x} {y} {v} e i q =
+      let is : y ≡ cond (line_between n low high k from l) 0 1 = rw (i, e) at (q ∙ outside_byte v) in
       record { sum = summed_more m.sum y is (rw is (outside_small (line_between n low high k from l))) }
-
-  pub outside_fits : (i z v : ℕ) {y : ℕ} → y ≡ one_outside i z v → l < 145 → Fits w32 (s + y)
-  unfolding one_outside
-  outside_fits i z v q h = record { fits = omega (arith, m.sum.small, q, outside_small (between i z v)) }
 
   pub outside_all : l ≤ k.count → k.count ≤ l → eqb s 0 ≡ lines_between n low high k from
   unfolding lines_between
@@ -225,39 +209,25 @@ module _ {n low high : List ℕ} {k : Lines} {from l s : ℕ} (m : Outside n low
       let f : ℕ → ℕ = λ i. cond (line_between n low high k from i) 0 1 in
       ap (λ (x : ℕ). eqb x 0) (summed_all m.sum h q).0 ∙ sym (sum_none k.count f) ∙ every_ext k.count _ _ (λ i _. sym (none_so (line_between n low high k from i)))
 
--- one kind after another: the first m entries of an array n lie between their bounds, and those of one kind more do or do not
-abbrev entry_between : List (List ℕ) → List ℕ → List ℕ → List ℕ → ℕ → Bool
-entry_between entries n low high e = between (get_or low e 0) (get_or high e 0) (entry_of entries n e)
+-- one kind after another: whether the first entries of an array n lie between their bounds, and those of one kind more
+module _ (n low high : List ℕ) where
+  module _ (entries : List (List ℕ)) where
+    entry_between : ℕ → Bool
+    entry_between e = between (get_or low e 0) (get_or high e 0) (entry_of entries n e)
 
-pub record BetweenTo (entries : List (List ℕ)) (n low high : List ℕ) (m : ℕ) : Type 0 where
-  pub all : every m (entry_between entries n low high) ≡ true
+    kind_more : {k : Lines} {from : ℕ} → Stands entries k from → every (from + k.count) entry_between ≡ (every from entry_between && lines_between n low high k from)
+    unfolding entry_between lines_between
+    kind_more {k} {from} s =
+        every_add from k.count entry_between
+        ∙ ap (λ (b : Bool). every from entry_between && b)
+        (every_ext k.count _ _ (λ l i. ap (λ (places : List ℕ). between (get_or low (from + l) 0) (get_or high (from + l) 0) (total n places)) (s.at l i)))
 
-pub between_none : (entries : List (List ℕ)) (n low high : List ℕ) → BetweenTo entries n low high 0
-between_none entries n low high = record { all = every_intro _ 0 (λ e h. absurd (omega arith)) }
-
-module _ {entries : List (List ℕ)} {n low high : List ℕ} {from : ℕ} (so_far : BetweenTo entries n low high from) {k : Lines} (s : Stands entries k from)
-    {x : Bool} (e : x ≡ lines_between n low high k from) where
-  kind_is : every (from + k.count) (entry_between entries n low high) ≡ x
-  unfolding lines_between
-  kind_is =
-      let kind : every k.count (λ l. entry_between entries n low high (from + l)) ≡ x =
-      every_ext k.count _ _ (λ l i. ap (λ (places : List ℕ). between (get_or low (from + l) 0) (get_or high (from + l) 0) (total n places)) (s.at l i)) ∙ sym e in
-      every_add from k.count (entry_between entries n low high) ∙ simp (so_far.all, kind)
-
-  pub kind_passes : x ≡ true → BetweenTo entries n low high (from + k.count)
-  kind_passes h = record { all = kind_is ∙ h }
-
-  pub kind_fails : x ≡ false → false ≡ entries_between entries n low high
-  unfolding entries_between
-  kind_fails h =
-      let later = length entries - (from + k.count) in
-      let whole : from + k.count + later ≡ length entries = omega (arith, s.inside) in
-      sym (ap (λ (m : ℕ). every m (entry_between entries n low high)) (sym whole)
-      ∙ every_add (from + k.count) later (entry_between entries n low high) ∙ simp (kind_is ∙ h))
-
-  pub kind_last : length entries ≡ from + k.count → x ≡ entries_between entries n low high
-  unfolding entries_between
-  kind_last all = sym (ap (λ (m : ℕ). every m (entry_between entries n low high)) all ∙ kind_is)
-
-pub cells_pass : (r c : ℕ) (n low high : List ℕ) {x : Bool} → x ≡ lines_between n low high (cell_lines (r * c)) 0 → x ≡ true → BetweenTo (entry_places r c) n low high (r * c)
-cells_pass r c n low high e h = rw (zero-add (r * c)) at (kind_passes (between_none (entry_places r c) n low high) (stands_cells r c) e h)
+  pub all_kinds : (r c : ℕ) → entries_between (entry_places r c) n low high
+      ≡ (lines_between n low high (cell_lines (r * c)) 0 && lines_between n low high (row_lines r c) (r * c) && lines_between n low high (column_lines r c) (r * c + r)
+      && lines_between n low high (grand_lines (r * c)) (r * c + r + c))
+  unfolding entries_between entry_between
+  all_kinds r c =
+      let e : List (List ℕ) = entry_places r c in
+      let none : every 0 (entry_between e) ≡ true = every_intro _ 0 (λ i h. absurd (omega arith)) in
+      let cells : every (r * c) (entry_between e) ≡ lines_between n low high (cell_lines (r * c)) 0 = rw (zero-add (r * c), none) at (kind_more e (stands_cells r c)) in
+      rw (entries_length r c, kind_more e (stands_grand r c), kind_more e (stands_columns r c), kind_more e (stands_rows r c), cells) refl

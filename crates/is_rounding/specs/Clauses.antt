@@ -1,6 +1,6 @@
 -- What the functions that hold an array to the table's entries require and promise. Entries are given as a list, each by the places that it is the sum of.
 -- Assumes nothing.
-use Rattle.std.specs.Prelude.{◌≡◌, Bool, cond, ◌&&◌, List, [], ℕ, ◌+◌, ◌*◌, ◌<◌, ◌≤◌, length, get_or, leb}
+use Rattle.std.specs.Prelude.{◌≡◌, Bool, ◌&&◌, List, [], ℕ, ◌+◌, ◌*◌, ◌<◌, ◌≤◌, length, get_or, leb}
 use Rattle.base.specs.Lists.{every}
 use Rattle.base.specs.Clauses.{Filled}
 use Rattle.table.specs.Table.{max_columns, max_cells, max_entries, max_denominator, max_expected, places, total}
@@ -44,10 +44,9 @@ pub record Room (low high : List ℕ) : Type 0 where
   pub high_length : length high ≡ max_entries
 
 -- what finding the bounds of all entries of a table needs, and of the entries of a kind
-pub record BoundsReady (r c d : ℕ) (g low high : List ℕ) : Type 0 where
+pub record BoundsReady (r c d : ℕ) (g : List ℕ) : Type 0 where
   pub shape : Shape r c g
   pub cells_are : Cells d g
-  pub room : Room low high
 
 pub record KindReady (k : Lines) (from d : ℕ) (g low high : List ℕ) : Type 0 where
   pub placed : Placed k from (length g)
@@ -72,9 +71,6 @@ pub record Bounds (entries : List (List ℕ)) (d : ℕ) (g low high : List ℕ) 
 -- a number from a low one to a high one
 abbrev pub between : ℕ → ℕ → ℕ → Bool
 between low high x = leb low x && leb x high
-
-unfoldable pub one_outside : ℕ → ℕ → ℕ → ℕ
-one_outside low high x = cond (between low high x) 0 1
 
 -- each entry of a kind of an array n lies between its bounds, which stand from a place on; and each entry that an array is held to does
 unfoldable pub lines_between : List ℕ → List ℕ → List ℕ → Lines → ℕ → Bool

@@ -7,7 +7,7 @@ ghost use Rattle.next_rounding.specs.Next.{Follows, next_rounding};
 ghost use Rattle.next_rounding.specs.Clauses.{passes, SearchReady, FirstFrom, NextReady, Found};
 
 use crate::arrays::{number, places, write_array};
-use is_rounding::{bounds, held};
+use is_rounding::EntryBounds;
 use table::Table;
 
 mod arrays;
@@ -19,18 +19,17 @@ fn first_from(
     rows: usize,
     columns: usize,
     places: &[usize; 16],
-    low: &[u32; 169],
-    high: &[u32; 169],
+    bounds: &EntryBounds,
 ) -> u32
-    requires { SearchReady rows columns places.now low.now high.now end }
-    ensures { FirstFrom (passes rows columns low.now high.now) from end result }
+    requires { SearchReady rows columns places.now bounds.now.low bounds.now.high end }
+    ensures { FirstFrom (passes rows columns bounds.now.low bounds.now.high) from end result }
 {
     let cells = rows * columns;
     let mut counts = [0u16; 16];
     let mut x = from;
     while x < end {
-        write_array(x, rows, columns, places, low, &mut counts);
-        if held(&counts[..cells], rows, columns, low, high) {
+        write_array(x, rows, columns, places, &bounds.low, &mut counts);
+        if bounds.hold(&counts[..cells], rows, columns) {
             return x;
         }
         x = x + 1;
@@ -46,15 +45,13 @@ pub fn write_next(t: Table, cells: &[u32], array: &[u16], counts: &mut [u16]) ->
 {
     let rows = t.rows;
     let columns = t.columns;
-    let mut low = [0u32; 169];
-    let mut high = [0u32; 169];
-    bounds(cells, rows, columns, t.denominator, &mut low, &mut high);
+    let bounds = EntryBounds::of(cells, rows, columns, t.denominator);
     let order = places(rows, columns);
-    let given = number(array, rows, columns, &order, &low);
+    let given = number(array, rows, columns, &order, &bounds.low);
     let end = 1u32 << ((rows * columns) as u32);
-    let x = first_from(given + 1, end, rows, columns, &order, &low, &high);
+    let x = first_from(given + 1, end, rows, columns, &order, &bounds);
     if x < end {
-        write_array(x, rows, columns, &order, &low, counts);
+        write_array(x, rows, columns, &order, &bounds.low, counts);
         return true;
     }
     false

@@ -6,7 +6,7 @@ ghost use Rattle.reading.specs.Clauses.{Sized};
 ghost use Rattle.opening.specs.Clauses.{weights_right, arrays_right, ArraysTo, ArrayTo, ArrayTested, ArraysTested, TableOf};
 
 use form::Sizes;
-use is_rounding::{bounds, held};
+use is_rounding::EntryBounds;
 use reading::{read_array, read_table, weight};
 use table::check::cells_within;
 use weighted_arrays::{add_weighted, cells_met};
@@ -28,37 +28,24 @@ fn weights_right(plan: &[u8], s: Sizes) -> bool
 }
 
 // Whether array k, counted from 0, is held to the table's entries; its counts times its weight are added to the sums.
-fn array_held(
-    plan: &[u8],
-    s: Sizes,
-    k: usize,
-    low: &[u32; 169],
-    high: &[u32; 169],
-    sums: &mut [u64; 144],
-) -> bool
-    requires { ArrayTo s plan.now low.now high.now k sums.old }
+fn array_held(plan: &[u8], s: Sizes, k: usize, bounds: &EntryBounds, sums: &mut [u64; 144]) -> bool
+    requires { ArrayTo s plan.now bounds.now.low bounds.now.high k sums.old }
     ensures { ArrayTested plan.now k result sums.new }
 {
     let cells = s.rows * s.columns;
     let mut counts = [0u16; 144];
     read_array(plan, k, &mut counts);
     add_weighted(weight(plan, k), &counts[..cells], sums);
-    held(&counts[..cells], s.rows, s.columns, low, high)
+    bounds.hold(&counts[..cells], s.rows, s.columns)
 }
 
 // Whether each array is held to the table's entries, and if so the counts of all arrays times their weights.
-fn arrays_held(
-    plan: &[u8],
-    s: Sizes,
-    low: &[u32; 169],
-    high: &[u32; 169],
-    sums: &mut [u64; 144],
-) -> bool
-    requires { ArraysTo s plan.now low.now high.now 0 sums.old }
+fn arrays_held(plan: &[u8], s: Sizes, bounds: &EntryBounds, sums: &mut [u64; 144]) -> bool
+    requires { ArraysTo s plan.now bounds.now.low bounds.now.high 0 sums.old }
     ensures { ArraysTested plan.now result sums.new }
 {
     for k in 0..s.arrays {
-        if !array_held(plan, s, k, low, high, sums) {
+        if !array_held(plan, s, k, bounds, sums) {
             return false;
         }
     }
@@ -70,18 +57,9 @@ fn arrays_right(plan: &[u8], s: Sizes, cells: &[u32]) -> bool
     requires { TableOf s plan.now cells.now }
     ensures { result ≡ arrays_right (decode plan.now) }
 {
-    let mut low = [0u32; 169];
-    let mut high = [0u32; 169];
-    bounds(
-        cells,
-        s.rows,
-        s.columns,
-        u64::from(s.denominator),
-        &mut low,
-        &mut high,
-    );
+    let bounds = EntryBounds::of(cells, s.rows, s.columns, u64::from(s.denominator));
     let mut sums = [0u64; 144];
-    if !arrays_held(plan, s, &low, &high, &mut sums) {
+    if !arrays_held(plan, s, &bounds, &mut sums) {
         return false;
     }
     cells_met(cells, &sums)

@@ -1,9 +1,10 @@
+use mathlib.Core.Path.{◌∙◌}
+use borrow.Author.Tests.{ne_eqb}
 use Rattle.is_rounding.proofs.Rounded.{other_length, held_rounding}
-use borrow.Author.Rules.{rules}
 use Rattle.is_rounding.proofs.is_rounding.Goals as goal
 
 pub returns-then-counts-cells : goal.returns-then-counts-cells
-returns-then-counts-cells c = search (rules, other_length)
+returns-then-counts-cells c = held_rounding c.requires _ c.if-counts-cells.true c.of.ensures c.hold.ensures
 
-pub returns : goal.returns
-returns c = search (rules, held_rounding)
+pub returns-else-counts-cells : goal.returns-else-counts-cells
+returns-else-counts-cells c = ne_eqb _ _ c.if-counts-cells.false ∙ other_length c.requires _ c.if-counts-cells.false
