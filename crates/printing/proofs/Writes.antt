@@ -2,14 +2,14 @@
 use mathlib.Core.Path.{◌≡◌, refl, sym, ap, ◌∙◌}
 use mathlib.Core.Logic.{⊎_elim}
 use mathlib.Core.List.{List, [], ◌∷◌, ◌++◌}
-use Prim.Native.Nat.{ℕ, zero, suc, ◌+◌, ◌/◌, ◌%◌, ◌<◌, ◌≤◌}
+use Prim.Native.Nat.{ℕ, zero, suc, ◌+◌, ◌-◌, ◌/◌, ◌%◌, ◌<◌, ◌≤◌}
 use native.Mathlib.Nat.{eq-or-lt_of_le, le_of_suc-le-suc}
 use native.Mathlib.Numerals.{add-one}
 use native.Mathlib.Omega.{arith}
-use lib.ListN.{length, get_or, set, take, drop, length-append}
-use lib.Seq.{take-suc, take-length, length-take-le}
+use lib.ListN.{length, set, take, drop, length-append}
+use lib.Seq.{length-take-le}
 use Rattle.base.specs.Lists.{join_to}
-use Rattle.base.proofs.Puts.{length_put, put_then, put_start, put_one, put_nothing}
+use Rattle.base.proofs.Puts.{length_put, put_then, put_start, put_one, put_nothing, put_part}
 use Rattle.printing.specs.Lines.{decimal}
 use Rattle.printing.specs.Clauses.{Room, gap_before}
 use Rattle.printing.specs.Write.{Wrote}
@@ -21,6 +21,10 @@ module _ (out : List ℕ) (at : ℕ) where
 
   pub wrote_byte : (b : ℕ) → at + 1 ≤ length out → Wrote out at (b ∷ []) (set out at b) (at + 1)
   wrote_byte b h = record { next = refl; buffer = put_one out at b h }
+
+  -- copied over the part that they take
+  pub wrote_copied : (s : List ℕ) → Wrote out at s (take at out ++ (s ++ drop (at + length s - at) (drop at out))) (at + length s)
+  wrote_copied s = record { next = refl; buffer = put_part out s at _ (omega arith) }
 
 -- a buffer keeps its length
 pub wrote_length : {out : List ℕ} {at : ℕ} {s after : List ℕ} {end : ℕ} → Wrote out at s after end → Room out at s → length after ≡ length out
@@ -77,9 +81,6 @@ module _ {f : ℕ → List ℕ} {n k : ℕ} {s out : List ℕ} {at : ℕ} {after
   pub writing_length : length after ≡ length out
   writing_length = wrote_length w.wrote (record { fits = omega (arith, w.room.fits, ap length w.whole, join_length f k n w.below) })
 
-  pub writing_kept : (last : List ℕ) → length last ≡ length after → length last ≡ length out
-  writing_kept last e = e ∙ writing_length
-
   pub writing_all : n ≤ k → Wrote out at s after end
   writing_all l =
       let e : k ≡ n = omega (arith, w.below) in
@@ -94,21 +95,6 @@ module _ {f : ℕ → List ℕ} {n k : ℕ} {s out : List ℕ} {at : ℕ} {after
 
     pub writing_more : {last : List ℕ} {r : ℕ} → Wrote after end (f k) last r → Writing f n (k + 1) s out at last r
     writing_more v = record { whole = w.whole; room = w.room; below = omega arith; wrote = rw (join_more f k) (wrote_then (join_to k f) (f k) here w.wrote v) }
-
--- the bytes of a list, one by one
-abbrev pub byte_of : List ℕ → ℕ → List ℕ
-byte_of s i = get_or s i 0 ∷ []
-
-bytes_join : (s : List ℕ) (i : ℕ) → i ≤ length s → join_to i (byte_of s) ≡ take i s
-unfolding join_to
-bytes_join s zero h = refl
-bytes_join s (suc i) h = ap (λ l. l ++ byte_of s i) (bytes_join s i (omega arith)) ∙ sym (take-suc s i 0 h)
-
-pub bytes_whole : (s : List ℕ) → join_to (length s) (byte_of s) ≡ s
-bytes_whole s = bytes_join s (length s) (omega arith) ∙ take-length s
-
-pub bytes_none : (s : List ℕ) {out : List ℕ} {at : ℕ} → Room out at s → Writing (byte_of s) (length s) 0 s out at out at
-bytes_none s h = writing_none (byte_of s) (length s) (bytes_whole s) h
 
 -- a number, digit by digit
 module _ (x : ℕ) {out : List ℕ} {at : ℕ} (h : Room out at (decimal x)) where
@@ -137,23 +123,9 @@ later : (i : ℕ) → (i ≡ 0 → ⊥) → gap_before i ≡ 32 ∷ []
 later zero h = absurd (h refl)
 later (suc i) h = refl
 
-module _ (i : ℕ) (x : List ℕ) {out : List ℕ} {at : ℕ} (h : Room out at (gap_before i ++ x)) where
-  pub first_room : i ≡ 0 → Room out at x
-  first_room e = rw e at h
+module _ (i : ℕ) (x : List ℕ) {out : List ℕ} {at : ℕ} (h : Room out at (gap_before i ++ x)) (l : i ≡ 0 → ⊥) where
+  both : Room out at ((32 ∷ []) ++ x)
+  both = rw (later i l) at h
 
-  pub first_wrote : i ≡ 0 → {last : List ℕ} {r : ℕ} → Wrote out at x last r → Wrote out at (gap_before i ++ x) last r
-  first_wrote e w = rw e w
-
-  module _ (l : i ≡ 0 → ⊥) where
-    both : Room out at ((32 ∷ []) ++ x)
-    both = rw (later i l) at h
-
-    pub space_room : at + 1 ≤ length out
-    space_room = (room_first (32 ∷ []) x both).fits
-
-    module _ {after : List ℕ} {end : ℕ} (w : Wrote out at (32 ∷ []) after end) where
-      pub later_room : Room after end x
-      later_room = room_then (32 ∷ []) x both w
-
-      pub later_wrote : {last : List ℕ} {r : ℕ} → Wrote after end x last r → Wrote out at (gap_before i ++ x) last r
-      later_wrote v = rw (later i l) (wrote_then (32 ∷ []) x both w v)
+  pub later_wrote : {after last : List ℕ} {end r : ℕ} → Wrote out at (32 ∷ []) after end → Wrote after end x last r → Wrote out at (gap_before i ++ x) last r
+  later_wrote w v = rw (later i l) (wrote_then (32 ∷ []) x both w v)

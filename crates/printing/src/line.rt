@@ -13,8 +13,8 @@ pub fn print_numbers(numbers: &[u32], out: &mut [u8], at: usize) -> usize
     ensures { Wrote out.old at (line numbers.now) out.new result }
 {
     let mut end = at;
-    for i in 0..numbers.len() {
-        end = put_number(out, end, i, u64::from(numbers[i]));
+    for (i, x) in numbers.iter().enumerate() {
+        end = put_number(out, end, i, u64::from(*x));
     }
     put_bytes(out, end, b"\n")
 }

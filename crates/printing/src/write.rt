@@ -16,12 +16,8 @@ pub fn put_bytes(out: &mut [u8], at: usize, s: &[u8]) -> usize
     requires { Room out.old at s.now }
     ensures { Wrote out.old at s.now out.new result }
 {
-    let mut end = at;
-    let mut i = 0;
-    while i < s.len() {
-        end = put_byte(out, end, s[i]);
-        i += 1;
-    }
+    let end = at + s.len();
+    out[at..end].copy_from_slice(s);
     end
 }
 
@@ -31,10 +27,10 @@ pub fn put_decimal(out: &mut [u8], at: usize, x: u64) -> usize
     ensures { Wrote out.old at (decimal x) out.new result }
 {
     if x < 10 {
-        return put_byte(out, at, (48 + x) as u8);
+        return put_byte(out, at, b'0' + x as u8);
     }
     let end = put_decimal(out, at, x / 10);
-    put_byte(out, end, (48 + x % 10) as u8)
+    put_byte(out, end, b'0' + (x % 10) as u8)
 }
 
 // The number at place i of a line: the first has no space before it.
@@ -45,6 +41,6 @@ pub fn put_number(out: &mut [u8], at: usize, i: usize, x: u64) -> usize
     if i == 0 {
         return put_decimal(out, at, x);
     }
-    let end = put_byte(out, at, 32);
+    let end = put_byte(out, at, b' ');
     put_decimal(out, end, x)
 }
