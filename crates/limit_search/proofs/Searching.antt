@@ -1,5 +1,6 @@
 -- What the search of a block keeps, and what the searches of three blocks find. Assumes nothing.
-use Rattle.std.specs.Prelude.{Option, Some, None}
+use Rattle.std.specs.Prelude.{Option, Some, None, unwrap_or}
+use Rattle.std.specs.Option.{option_or}
 use mathlib.Core.Path.{◌≡◌, refl, sym, ap, ap₂, ◌∙◌}
 use mathlib.Core.Bool.{Bool, true, false, cond}
 use mathlib.Core.List.{List, [], ◌∷◌, ◌++◌}
@@ -17,7 +18,7 @@ use Rattle.base.specs.Search.{first_that}
 use Rattle.base.proofs.Lists.{tabulate_ext}
 use Rattle.base.proofs.Searches.{first_append, first_at, first_none}
 use Rattle.grid.specs.Clauses.{grid_place, grid_order}
-use Rattle.limit_search.specs.Clauses.{Block, block, InGrid, block_place, block_places, holds, found_or, Sizes}
+use Rattle.limit_search.specs.Clauses.{Block, block, InGrid, block_place, block_places, holds, Sizes}
 
 -- none of the first m places of a block holds x
 abbrev pub NoneTo : List ℕ → ℕ → Block → ℕ → Type 0
@@ -25,7 +26,7 @@ NoneTo l x b m = (k : ℕ) → k < m → holds l x (block_place b k) ≡ false
 
 -- what a search has to find
 abbrev pub Finds : List ℕ → ℕ → Block → Option ℕ → Type 0
-Finds l x b f = (other : ℕ) → found_or f other ≡ first_that (holds l x) (block_places b) other
+Finds l x b f = (other : ℕ) → unwrap_or f other ≡ first_that (holds l x) (block_places b) other
 
 module _ (l : List ℕ) (x : ℕ) (b : Block) where
   pub none_at_start : NoneTo l x b (0 * b.columns)
@@ -92,6 +93,12 @@ chain test p q r =
     (first_append test p (q ++ (r ++ (168 ∷ []))) 168
     ∙ ap (first_that test p) (first_append test q (r ++ (168 ∷ [])) 168 ∙ ap (first_that test q) (first_append test r (168 ∷ []) 168)))
 
+-- the first of three places that is there
+either : (f g h : Option ℕ) → unwrap_or (option_or (option_or f g) h) 168 ≡ unwrap_or f (unwrap_or g (unwrap_or h 168))
+either (Some k) g h = refl
+either None (Some k) h = refl
+either None None h = refl
+
 -- cells, row totals and column totals as blocks of the grid
 abbrev pub cell_block : ℕ → ℕ → Block
 cell_block r c = block 0 0 r c
@@ -125,29 +132,15 @@ module _ {r c : ℕ} (z : Sizes r c) where
 
   -- one block after another, and then the grand total
   pub first_is : (l : List ℕ) (x : ℕ) (f g h : Option ℕ) → Finds l x (cell_block r c) f → Finds l x (row_block r) g → Finds l x (column_block c) h
-      → found_or f (found_or g (found_or h 168)) ≡ first_that (holds l x) (grid_order r c) 168
+      → unwrap_or f (unwrap_or g (unwrap_or h 168)) ≡ first_that (holds l x) (grid_order r c) 168
   unfolding grid_order
   first_is l x f g h cell row column =
       let first : List ℕ → ℕ → ℕ = first_that (holds l x) in
-      cell (found_or g (found_or h 168))
-      ∙ ap₂ first cell_places_lem (row (found_or h 168) ∙ ap₂ first row_places_lem (column 168 ∙ ap (λ (k : List ℕ). first k 168) column_places_lem))
+      cell (unwrap_or g (unwrap_or h 168))
+      ∙ ap₂ first cell_places_lem (row (unwrap_or h 168) ∙ ap₂ first row_places_lem (column 168 ∙ ap (λ (k : List ℕ). first k 168) column_places_lem))
       ∙ chain (holds l x) _ _ _
 
-  -- the four ways out
-  module _ (l : List ℕ) (x : ℕ) (f g h : Option ℕ) (cell : Finds l x (cell_block r c) f) (row : Finds l x (row_block r) g) (column : Finds l x (column_block c) h) where
-    found : {k : ℕ} → found_or f (found_or g (found_or h 168)) ≡ k → k ≡ first_that (holds l x) (grid_order r c) 168
-    found e = sym e ∙ first_is l x f g h cell row column
-
-    pub found_cell : {k : ℕ} → f ≡ Some k → k ≡ first_that (holds l x) (grid_order r c) 168
-    found_cell e = found (rw e refl)
-
-    module _ (a : f ≡ None) where
-      pub found_row : {k : ℕ} → g ≡ Some k → k ≡ first_that (holds l x) (grid_order r c) 168
-      found_row e = found (rw (a, e) refl)
-
-      module _ (b : g ≡ None) where
-        pub found_column : {k : ℕ} → h ≡ Some k → k ≡ first_that (holds l x) (grid_order r c) 168
-        found_column e = found (rw (a, b, e) refl)
-
-        pub found_grand : h ≡ None → 168 ≡ first_that (holds l x) (grid_order r c) 168
-        found_grand e = found (rw (a, b, e) refl)
+  -- the first of three searches that finds a place, else the last place
+  pub place_is_first : (l : List ℕ) (x : ℕ) (f g h : Option ℕ) → Finds l x (cell_block r c) f → Finds l x (row_block r) g → Finds l x (column_block c) h
+      → unwrap_or (option_or (option_or f g) h) 168 ≡ first_that (holds l x) (grid_order r c) 168
+  place_is_first l x f g h cell row column = either f g h ∙ first_is l x f g h cell row column

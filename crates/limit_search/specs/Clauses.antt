@@ -1,5 +1,5 @@
 -- What the search of a grid for a number requires and promises. Assumes nothing.
-use Rattle.std.specs.Prelude.{Bool, List, ℕ, ◌+◌, ◌*◌, ◌/◌, ◌%◌, ◌≤◌, get_or, eqb, Option, Some, None}
+use Rattle.std.specs.Prelude.{Bool, List, ℕ, ◌+◌, ◌*◌, ◌/◌, ◌%◌, ◌≤◌, get_or, eqb}
 use Rattle.base.specs.Lists.{tabulate}
 use Rattle.table.specs.Table.{max_rows, max_columns}
 use Rattle.grid.specs.Clauses.{grid_place}
@@ -29,11 +29,6 @@ block_places b = tabulate (b.rows * b.columns) (block_place b)
 -- the number at a place is x
 abbrev pub holds : List ℕ → ℕ → ℕ → Bool
 holds l x k = eqb (get_or l k 0) x
-
--- where a search found x, or another place where it did not
-abbrev pub found_or : Option ℕ → ℕ → ℕ
-found_or (Some k) other = k
-found_or None other = other
 
 -- sizes within the bounds
 pub record Sizes (r c : ℕ) : Type 0 where

@@ -1,34 +1,32 @@
 // The first entry, in the order of the entries, whose limit is a given number. Limits stand at the places of the grid of 13 by 13.
 #![tactic(auto)]
 
-ghost use Rattle.std.specs.Prelude.{◌≡◌, ℕ};
+ghost use Rattle.std.specs.Prelude.{◌≡◌, ℕ, unwrap_or};
 ghost use Rattle.base.specs.Search.{first_that};
 ghost use Rattle.grid.specs.Clauses.{grid_order};
-ghost use Rattle.limit_search.specs.Clauses.{block, InGrid, block_places, holds, found_or, Sizes};
-
-// What a search of a block finds: a place of the grid.
-#[derive(Clone, Copy)]
-pub enum Found {
-    At(usize),
-    Nowhere,
-}
+ghost use Rattle.limit_search.specs.Clauses.{block, InGrid, block_places, holds, Sizes};
 
 // The first place that holds x of a block of the grid, row by row: so many rows from `top` on, and columns from `left` on.
-fn first_in(l: &[u64; 169], x: u64, top: usize, left: usize, rows: usize, columns: usize) -> Found
+fn first_in(
+    l: &[u64; 169],
+    x: u64,
+    top: usize,
+    left: usize,
+    rows: usize,
+    columns: usize,
+) -> Option<usize>
     requires { InGrid (block top left rows columns) }
-    ensures { (other : ℕ) → found_or result other ≡ first_that (holds l.now x) (block_places (block top left rows columns)) other }
+    ensures { (other : ℕ) → unwrap_or result other ≡ first_that (holds l.now x) (block_places (block top left rows columns)) other }
 {
-    let mut found = None;
-    'rows: for i in 0..rows {
+    for i in 0..rows {
         for j in 0..columns {
             let k = (top + i) * 13 + (left + j);
             if l[k] == x {
-                found = Some(k);
-                break 'rows;
+                return Some(k);
             }
         }
     }
-    found
+    None
 }
 
 // The place of the first entry whose limit is x: cells, row totals, column totals, grand total.
@@ -39,14 +37,5 @@ pub fn first_place(l: &[u64; 169], x: u64, rows: usize, columns: usize) -> usize
     let cell = first_in(l, x, 0, 0, rows, columns);
     let row = first_in(l, x, 0, 12, rows, 1);
     let column = first_in(l, x, 12, 0, 1, columns);
-    match cell {
-        Some(k) => k,
-        None => match row {
-            Some(k) => k,
-            None => match column {
-                Some(k) => k,
-                None => 168,
-            },
-        },
-    }
+    cell.or(row).or(column).unwrap_or(168)
 }
