@@ -13,8 +13,8 @@ use first_rounding::round_grid;
 use grid::entries;
 use grid::write::write_cells;
 use refusals::Refusal;
-use table::check::check;
 use table::Table;
+use table::check::check;
 
 // Writes the first controlled rounding of an accepted table.
 pub fn write_rounding(t: Table, cells: &[u32], counts: &mut [u16])
@@ -31,7 +31,13 @@ pub fn write_rounding(t: Table, cells: &[u32], counts: &mut [u16])
 }
 
 // Writes the first controlled rounding of a table, or returns the lowest refusal that applies.
-pub fn round(rows: u32, columns: u32, denominator: u32, cells: &[u32], counts: &mut [u16]) -> Result<(), Refusal>
+pub fn round(
+    rows: u32,
+    columns: u32,
+    denominator: u32,
+    cells: &[u32],
+    counts: &mut [u16],
+) -> Result<(), Refusal>
     ensures { Answers (round_refusal rows columns denominator cells.now (length counts.old))
         (written (first_rounding rows columns denominator cells.now) counts.old) counts.old result counts.new }
 {
