@@ -62,15 +62,15 @@ module _ {s : Sizes} {b : List ℕ} (z : Sized s b) where
     pub no_weight : w < 1 → false ≡ weights_right (decode b)
     no_weight q = sym (weights_by p ∙ simp (sym (every_not (λ j. leb 1 (weight_at l j)) (length l) k (rw (arrays_are z) h) (lt-leb 1 (weight_at l k) (rw (sym e) q)))))
 
-    module _ {x sum : ℕ} (i : x ≡ w) (small : x < 4294967296) (m : Weighed l k sum) where
+    module _ {x sum : ℕ} (i : x ≡ w) (small : w < 4294967296) (m : Weighed l k sum) where
       pub weights_fit : Fits w64 (sum + x)
-      weights_fit = record { fits = omega (arith, m.small, sized_arrays z) }
+      weights_fit = record { fits = omega (arith, i, m.small, sized_arrays z) }
 
       pub weighed_more : 1 ≤ w → Weighed l (k + 1) (sum + x)
       weighed_more q = record {
         some = passed_more m.some (le-leb 1 (weight_at l k) (rw (sym e) q));
         is = omega (arith, m.is, e, i, sum_more (weight_at l) k);
-        small = omega (arith, m.small);
+        small = omega (arith, m.small, i);
       }
 
   pub weighed_all : {k sum d : ℕ} → Weighed l k sum → k ≤ s.arrays → s.arrays ≤ k → d ≡ s.denominator → eqb sum d ≡ weights_right (decode b)

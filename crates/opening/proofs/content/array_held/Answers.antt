@@ -25,12 +25,12 @@ add_weighted-requires c = read_addable c.requires.so_far.sized c.requires.there 
 pub slice_bounds-counts-end-2 : goal.slice_bounds-counts-end-2
 slice_bounds-counts-end-2 c = search (rules, read_within)
 
-pub slice_bounds-held-end : goal.slice_bounds-held-end
-slice_bounds-held-end c = search (rules, read_length)
+pub slice_bounds-hold-end : goal.slice_bounds-hold-end
+slice_bounds-hold-end c = search (rules, read_length)
 
-pub held-requires : goal.held-requires
-held-requires c = read_counts c.requires.so_far.sized c.requires.there c.read_array.ensures c.requires.so_far
+pub hold-requires : goal.hold-requires
+hold-requires c = read_counts c.requires.so_far.sized c.requires.there c.read_array.ensures c.requires.so_far
 
 pub returns : goal.returns
 returns c =
-    array_tested c.requires.so_far.sized c.requires.there c.read_array.ensures c.requires.so_far c.weight.ensures c.add_weighted.ensures c.held.ensures
+    array_tested c.requires.so_far.sized c.requires.there c.read_array.ensures c.requires.so_far c.weight.ensures c.add_weighted.ensures c.hold.ensures

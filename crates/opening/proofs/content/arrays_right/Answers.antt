@@ -1,15 +1,14 @@
 use mathlib.Core.Bool.{not}
-use mathlib.Core.Path.{refl, ap}
+use mathlib.Core.Path.{ap}
 use Rattle.opening.proofs.ContentTests.{table_shape, table_arrays, table_few, arrays_unheld, arrays_met}
 use borrow.Author.Rules.{rules}
 use Rattle.opening.proofs.content.arrays_right.Goals as goal
 
-pub bounds-requires : goal.bounds-requires
-bounds-requires c =
-    record { shape = table_shape c.requires; cells_are = rw c.wide.ensures.is c.requires.cells_are; room = record { low_length = refl; high_length = refl } }
+pub of-bounds-requires : goal.of-bounds-requires
+of-bounds-requires c = record { shape = table_shape c.requires; cells_are = rw c.from.ensures c.requires.cells_are }
 
 pub arrays_held-requires : goal.arrays_held-requires
-arrays_held-requires c = table_arrays c.requires (rw c.wide.ensures.is at c.bounds.ensures)
+arrays_held-requires c = table_arrays c.requires (rw c.from.ensures at c.of-bounds.ensures)
 
 pub returns-then-not-arrays_held : goal.returns-then-not-arrays_held
 returns-then-not-arrays_held c = arrays_unheld c.requires c.arrays_held.ensures (ap not c.if-not-arrays_held.true)
