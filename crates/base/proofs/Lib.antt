@@ -15,3 +15,4 @@ pub mod Zips
 pub mod Differences
 pub mod Signs
 pub mod Clearing
+pub mod StdLists

@@ -8,8 +8,6 @@ use Prim.Native.Nat.{ℕ, ◌+◌, ◌*◌, ◌<◌, ◌≤◌}
 use native.Mathlib.Omega.{arith}
 use lib.ListN.{length, get_or}
 use lib.Dec.{leb, eqb}
-use mir.Val.{Fits}
-use mir.Syntax.{w32, w64}
 use borrow.Author.Count.{below_more}
 use borrow.Author.Tests.{lt-leb, le-leb, leb-true, eqb-true, not-true, not-false}
 use Rattle.refusals.specs.declared.Refusal.{Refusal}
@@ -19,7 +17,6 @@ use Rattle.table.specs.Check.{up_to, cells_within, size_within, denominator_with
 use Rattle.refusals.specs.declared.Refusal.TheVariants.{Size, Denominator, CellCount, LargeCell}
 use Rattle.table.specs.declared.Table.{Table}
 use Rattle.table.specs.Clauses.{IsTable, answered, sizes_of, check_of_cells, check_of}
-use Rattle.table.proofs.Totals.{small_product}
 use Rattle.base.proofs.Lists.{all_intro, all_elim, all_fails, all_at_member, and_left, and_right}
 
 pub too_small : (bound n : ℕ) → n < 1 → false ≡ up_to bound n
@@ -32,7 +29,7 @@ pub inside : (bound n : ℕ) → 1 ≤ n → n ≤ bound → up_to bound n ≡ t
 inside bound n h l = sym (small_enough bound n h) ∙ le-leb n bound l
 
 pub too_large : (bound n : ℕ) → bound < n → false ≡ up_to bound n
-too_large bound n h = let Some : 1 ≤ n = omega arith in simp (le-leb 1 n Some, lt-leb n bound h)
+too_large bound n h = let some : 1 ≤ n = omega arith in simp (le-leb 1 n some, lt-leb n bound h)
 
 pub up_to_low : (bound n : ℕ) → up_to bound n ≡ true → 1 ≤ n
 up_to_low bound n h = leb-true 1 n (and_left (leb 1 n) (leb n bound) h)
@@ -44,12 +41,6 @@ up_to_high bound n h = leb-true n bound (and_right (leb 1 n) (leb n bound) h)
 pub record Within (d : ℕ) (g : List ℕ) (i : ℕ) : Type 0 where
   pub within : (k : ℕ) → k < i → leb (get_or g k 0) (1000 * d) ≡ true
 
-pub within_none : (d : ℕ) (g : List ℕ) → Within d g 0
-within_none d g = record { within = λ k h. absurd (omega arith) }
-
-pub cells_fit : (d : ℕ) → d ≤ 65535 → Fits w32 (1000 * d)
-cells_fit d h = record { fits = omega arith }
-
 module _ {d : ℕ} {g : List ℕ} {i : ℕ} (w : Within d g i) where
   pub within_more : get_or g i 0 ≤ 1000 * d → Within d g (i + 1)
   within_more h = record { within = below_more (λ (k : ℕ). leb (get_or g k 0) (1000 * d) ≡ true) i w.within (le-leb _ _ h) }
@@ -59,20 +50,6 @@ module _ {d : ℕ} {g : List ℕ} {i : ℕ} (w : Within d g i) where
 
 pub within_not : (d : ℕ) (g : List ℕ) (i : ℕ) → i < length g → 1000 * d < get_or g i 0 → false ≡ cells_within d g
 within_not d g i p h = sym (all_fails _ g 0 i p (lt-leb _ _ h))
-
--- rows and columns that passed their test: the number of cells fits
-pub size_fits : (r c : ℕ) (b : Bool) → b ≡ size_within r c → not b ≡ false → Fits w64 (r * c)
-size_fits r c b e h =
-    let good : size_within r c ≡ true = sym e ∙ not-false b h in
-    small_product (up_to_high 12 r (and_left (up_to 12 r) (up_to 12 c) good)) (up_to_high 12 c (and_right (up_to 12 r) (up_to 12 c) good))
-
--- a test that is two tests, by the first and then the second
-module _ (b : Bool) {a x : Bool} (e : x ≡ a) where
-  pub first_fails : not x ≡ true → false ≡ (a && b)
-  first_fails h = simp (sym e ∙ not-true x h)
-
-  pub second_decides : not x ≡ false → {y : Bool} → y ≡ b → y ≡ (a && b)
-  second_decides h i = i ∙ sym (simp (sym e ∙ not-false x h))
 
 -- the ways through the check of the sizes
 module _ (r c d n : ℕ) (b : Bool) (be : b ≡ size_within r c) where

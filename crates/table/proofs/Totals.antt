@@ -88,14 +88,3 @@ module _ {r c : ℕ} {g : List ℕ} (s : Shape r c g) where
 -- a loop that adds up cells
 pub cells_all : (g : List ℕ) {start step bound k s at count : ℕ} → Added (λ i. get_or g i 0) start step bound k s at → k ≤ count → count ≤ k → s ≡ total g (places start step count)
 cells_all g {count = count} m h l = (added_all m h l).0 ∙ sym (total_sum g count _)
-
-module _ {f : ℕ → ℕ} {start step bound k s at : ℕ} (m : Added f start step bound k s at) where
-  module _ {count n : ℕ} (r : Reach start step count n) (h : k < count) where
-    pub cells_inside : at < n
-    cells_inside = omega (arith, r.inside k h, m.next)
-
-    pub cells_next : Fits w64 (at + step)
-    cells_next = record { fits = omega (arith, r.inside k h, m.next, r.step_small, r.room) }
-
-    pub cells_scaled : {width : ℕ} → width ≤ 8 → Fits w64 (at * width)
-    cells_scaled l = let a : at ≤ 144 = omega (arith, r.inside k h, m.next, r.room) in record { fits = omega (arith, mul-le-mul a l) }

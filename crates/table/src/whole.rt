@@ -1,7 +1,6 @@
 // The division of an entry that is not below zero by a weight, on which rounding, limits, opening, reasons and variances rest.
 ghost use Rattle.table.specs.Clauses.{Dividable, Divides};
 
-
 // An entry over a weight: rounded down, what is left over, and 1 where that is not 0, else 0.
 #[derive(Clone, Copy)]
 pub struct Divided {
@@ -16,18 +15,9 @@ pub fn divide(entry: u64, weight: u64) -> Divided
     ensures { Divides weight entry result }
 {
     let d = division::divide(entry as i64, weight);
-    let whole = d.whole as u64;
-    let rest = d.rest;
-    if rest == 0 {
-        return Divided {
-            whole,
-            rest,
-            gap: 0,
-        };
-    }
     Divided {
-        whole,
-        rest,
-        gap: 1,
+        whole: d.whole as u64,
+        rest: d.rest,
+        gap: u8::from(d.rest != 0),
     }
 }

@@ -1,9 +1,14 @@
+use mathlib.Core.Path.{◌∙◌}
+use Prim.Native.Nat.{◌*◌}
+use lib.Dec.{leb}
 use borrow.Author.Rules.{rules}
-use Rattle.table.proofs.Checks.{within_all, within_not}
+use borrow.Author.Tests.{tests}
+use Rattle.std.proofs.lemmas.Iterator.{YieldsList-from_slice}
+use Rattle.std.proofs.lemmas.Iterator.Search.{all_from_yields_List}
+use Rattle.base.proofs.StdLists.{all_listed}
 use Rattle.table.proofs.check.cells_within.Goals as goal
 
-pub returns-then-bound-cells : goal.returns-then-bound-cells
-returns-then-bound-cells c = search (rules, within_not)
-
 pub returns : goal.returns
-returns c = search (rules, within_all)
+returns c =
+    all_from_yields_List (λ x. leb x (1000 * c.args.denominator)) _ _ _ c.all.ensures.ran (YieldsList-from_slice c.args.cells.now cc) (λ x b q k. search (rules, tests))
+    ∙ all_listed _ c.args.cells.now

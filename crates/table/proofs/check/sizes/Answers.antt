@@ -15,7 +15,8 @@ returns-then-not-count_is c = search (rules, bad_count)
 
 pub returns : goal.returns
 returns c =
-    good _ _ _ _ _
+    rw c.from.ensures
+    (good _ _ _ _ _
     c.size_within.ensures (ap not c.if-not-size_within.false) _
     c.denominator_within.ensures (ap not c.if-not-denominator_within.false) _
-    c.count_is.ensures (ap not c.if-not-count_is.false)
+    c.count_is.ensures (ap not c.if-not-count_is.false))
