@@ -1,6 +1,7 @@
 -- Laws on the filling of rows. Assumes nothing.
 use mathlib.Core.Path.{◌≡◌, refl, sym, ap, ◌∙◌}
 use mathlib.Core.List.{List}
+use Rattle.std.proofs.Common.{Option, Some, None, IsSome, subst}
 use Prim.Native.Nat.{ℕ, ◌+◌, ◌-◌, ◌*◌, ◌≤◌, ◌<◌, min}
 use native.Mathlib.Nat.{zero-add, add-mul, le_antisymm, le_of_mul-le-mul_left}
 use native.Mathlib.Decide.{ℕ_discrete, dec_lt}
@@ -13,16 +14,11 @@ use Rattle.base.specs.Lists.{sum_to}
 use Rattle.base.proofs.Sums.{sum_ext, sum_add, sum_mul, sum_swap, sum_term}
 use Rattle.sets.specs.Clauses.{num, ind, on, Without, Nonzero}
 use Rattle.paths.specs.Clauses.{Stuck, OneMore, Augmented}
-use Rattle.line_sums.specs.Clauses.{Board, board_of, Places, row_sum, col_sum, Feasible, Room, RowsFilled, Lacking, StillLacking}
+use Rattle.paths.specs.declared.FreePlaces.{FreePlaces}
+use Rattle.line_sums.specs.Clauses.{Board, board_of, Places, row_sum, col_sum, Feasible, Room, RowsFilled, Lacking, LacksOne}
 use Rattle.sets.proofs.Indicators.{ind_same, ind_other}
 use Rattle.line_sums.proofs.Fixes.{places_more, row_more, col_more}
 use Rattle.line_sums.proofs.Cuts.{cut}
-
-pub lacking_none : {columns j left r : ℕ} → left ≡ 0 → on columns j ≡ 1 → Without columns j r → StillLacking columns j left r
-lacking_none {j = j} z o w = record { here = omega (arith, w.is j, ind_same j); others = λ q n. omega (arith, w.is q, ind_other q j n) }
-
-pub lacking_some : {columns j left : ℕ} → (left ≡ 0 → ⊥) → on columns j ≡ 1 → StillLacking columns j left columns
-lacking_some n o = record { here = omega arith; others = λ q z. refl }
 
 -- nothing filled
 pub filled_none : {g : Board} {lack : List ℕ} {a : ℕ → ℕ} → length lack ≡ 13 → ((p : ℕ) → p < 13 → a p ≡ 0) → RowsFilled g g lack lack a
@@ -91,12 +87,13 @@ module _ {up down one lack : List ℕ} {columns : ℕ} (m : Places up down one) 
           rw (e, get_or-set_same lack j (get_or lack j 0 - 1) 0 (omega arith)) (omega (arith, col_more m v j, ind_same j, has_lack hj o))
       go q (no n) = rw (get_or-set_other lack j q (get_or lack j 0 - 1) 0 n) (omega (arith, col_more m v q, ind_other q j n))
 
-  pub lacking_one : {j r : ℕ} → j < 13 → StillLacking columns j (get_or lack j 0 - 1) r → Lacking (set lack j (get_or lack j 0 - 1)) r
-  lacking_one {j} {r} hj s = record { is = λ q hq. go q hq (ℕ_discrete q j) }
-    where
-      go : (q : ℕ) → q < 13 → Dec (q ≡ j) → on r q ≡ min (get_or (set lack j (get_or lack j 0 - 1)) q 0) 1
-      go q hq (yes e) = rw (e, get_or-set_same lack j (get_or lack j 0 - 1) 0 (omega arith)) s.here
-      go q hq (no n) = rw (get_or-set_other lack j q (get_or lack j 0 - 1) 0 n) (s.others q n ∙ l.is q hq)
+-- the columns that lack something, where column j lacks nothing more
+pub lacking_without : {lack : List ℕ} {columns j left columns' : ℕ} → Lacking lack columns → LacksOne lack j → left ≡ 0 → Without columns j columns' → Lacking (set lack j left) columns'
+lacking_without {lack} {columns} {j} {left} {columns'} l r z w = record { is = λ q hq. go q hq (ℕ_discrete q j) }
+  where
+    go : (q : ℕ) → q < 13 → Dec (q ≡ j) → on columns' q ≡ min (get_or (set lack j left) q 0) 1
+    go q hq (yes s) = rw (s, get_or-set_same lack j left 0 (omega (arith, r.len, r.inside))) (omega (arith, w.is j, ind_same j, l.is j r.inside, r.some))
+    go q hq (no n) = rw (get_or-set_other lack j q left 0 n) (omega (arith, w.is q, ind_other q j n, l.is q hq))
 
 -- with k of n filled, there is room for the others
 room_left : {g g' : Board} {lack lack' : List ℕ} {i n k : ℕ} → k ≤ n → Room g lack i n → RowsFilled g g' lack lack' (λ p. k * ind p i) → Room g' lack' i (n - k)
@@ -107,80 +104,73 @@ room_left {i = i} {n = n} {k = k} h r f = record {
   feasible = feasible_filled f r.feasible;
 }
 
--- k more in row i, and the columns that lack something then
-pub record InRow (up₀ down₀ up down one lack₀ lack : List ℕ) (i k columns : ℕ) : Type 0 where
+-- k more in row i
+pub record InRow (up₀ down₀ up down one lack₀ lack : List ℕ) (i k : ℕ) : Type 0 where
   pub places : Places up down one
   pub filled : RowsFilled (board_of up₀ down₀ one) (board_of up down one) lack₀ lack (λ p. k * ind p i)
-  pub lacks : Lacking lack columns
 
-pub row_none : {up down one lack : List ℕ} {i columns : ℕ} → Places up down one → length lack ≡ 13 → Lacking lack columns → InRow up down up down one lack lack i 0 columns
-row_none m len l = record { places = m; filled = filled_none len (λ p hp. omega arith); lacks = l }
-
-module _ {up₀ down₀ up down one lack₀ lack : List ℕ} {i k columns : ℕ} (a : InRow up₀ down₀ up down one lack₀ lack i k columns) {up' down' : List ℕ} {j : ℕ} where
+module _ {up₀ down₀ one lack₀ lack : List ℕ} {m : FreePlaces} {i k columns : ℕ} (a : InRow up₀ down₀ m.up m.down one lack₀ lack i k) (l : Lacking lack columns) (m' : FreePlaces) where
   -- a search finds a column where more is to come
-  pub found : {n : ℕ} → i < 13 → k < n → Room (board_of up₀ down₀ one) lack₀ i n → Augmented up down up' down' columns i j → j < 13
-  found {n} hi h r g = go (dec_lt j 13)
-    where
-      go : Dec (j < 13) → j < 13
-      go (yes l) = l
-      go (no l) = absurd (not_stuck a.places a.filled.lack_len a.lacks hi (let x : 0 < n - k = omega arith in x)
-          (room_left (omega arith) r a.filled) (g.stuck (omega (arith, g.bound))).2)
+  pub found : {n : ℕ} (o : Option ℕ) → i < 13 → k < n → Room (board_of up₀ down₀ one) lack₀ i n → Augmented m m' columns i o → IsSome o
+  found {n} (Some j) hi h r g = refl
+  found {n} None hi h r g = absurd (not_stuck a.places a.filled.lack_len l hi (let x : 0 < n - k = omega arith in x) (room_left (omega arith) r a.filled) g.1)
 
-  pub row_step : {r : ℕ} → j < 13 → on columns j ≡ 1 → OneMore up down up' down' i j → StillLacking columns j (get_or lack j 0 - 1) r
-      → InRow up₀ down₀ up' down' one lack₀ (set lack j (get_or lack j 0 - 1)) i (k + 1) r
-  row_step hj o v s = record {
-    places = places_more a.places v;
-    filled = filled_then a.filled (filled_one a.places a.filled.lack_len a.lacks hj o v) (λ p hp. omega (arith, add-mul k 1 (ind p i)));
-    lacks = lacking_one a.places a.filled.lack_len a.lacks hj s;
-  }
+  -- it lacks something
+  pub found_lacks : {o : Option ℕ} {j : ℕ} → Augmented m m' columns i o → o ≡ Some j → LacksOne lack j
+  found_lacks {o} {j} g e = let h = subst (Augmented m m' columns i) e g in record { inside = h.0; len = a.filled.lack_len; some = has_lack a.places a.filled.lack_len l h.0 h.1 }
 
-pub row_all : {up₀ down₀ up down one lack₀ lack : List ℕ} {i k n columns : ℕ} → InRow up₀ down₀ up down one lack₀ lack i k columns → k ≡ n
-    → RowsFilled (board_of up₀ down₀ one) (board_of up down one) lack₀ lack (λ p. n * ind p i)
-row_all {i = i} a h = filled_as a.filled (λ p hp. ap (λ (x : ℕ). x * ind p i) (sym h))
+  pub row_step : {o : Option ℕ} {j : ℕ} {lack' : List ℕ} → Augmented m m' columns i o → o ≡ Some j → lack' ≡ set lack j (get_or lack j 0 - 1)
+      → InRow up₀ down₀ m'.up m'.down one lack₀ lack' i (k + 1)
+  row_step {o} {j} g e t =
+      let h = subst (Augmented m m' columns i) e g in
+      rw t (record {
+        places = places_more a.places h.2;
+        filled = filled_then a.filled (filled_one a.places a.filled.lack_len l h.0 h.1 h.2) (λ p hp. omega (arith, add-mul k 1 (ind p i)));
+      })
 
--- what the last k rows are to have more, and the others nothing
-unfoldable pub last_rows : List ℕ → ℕ → ℕ → ℕ
-last_rows more k p = num (leb 13 (p + k)) * get_or more p 0
+-- what the rows from row k on are to have more, and the others nothing
+unfoldable pub rows_from : List ℕ → ℕ → ℕ → ℕ
+rows_from more k p = num (leb k p) * get_or more p 0
 
-rows_filled : (more : List ℕ) (k p : ℕ) → 13 ≤ p + k → last_rows more k p ≡ get_or more p 0
-unfolding last_rows
+rows_filled : (more : List ℕ) (k p : ℕ) → k ≤ p → rows_from more k p ≡ get_or more p 0
+unfolding rows_from
 rows_filled more k p h = rw (le-leb _ _ h) (omega arith)
 
-rows_empty : (more : List ℕ) (k p : ℕ) → p + k < 13 → last_rows more k p ≡ 0
-unfolding last_rows
+rows_empty : (more : List ℕ) (k p : ℕ) → p < k → rows_from more k p ≡ 0
+unfolding rows_from
 rows_empty more k p h = rw (lt-leb _ _ h) (omega arith)
 
-pub rows_none : (more : List ℕ) (p : ℕ) → p < 13 → last_rows more 0 p ≡ 0
-rows_none more p h = rows_empty more 0 p (omega arith)
+pub rows_none : (more : List ℕ) {k : ℕ} → 13 ≤ k → (p : ℕ) → p < 13 → rows_from more k p ≡ 0
+rows_none more {k} z p h = rows_empty more k p (omega arith)
 
-pub rows_all : (more : List ℕ) {k : ℕ} → 13 ≤ k → (p : ℕ) → p < 13 → get_or more p 0 ≡ last_rows more k p
+pub rows_all : (more : List ℕ) {k : ℕ} → k ≤ 0 → (p : ℕ) → p < 13 → get_or more p 0 ≡ rows_from more k p
 rows_all more {k} h p hp = sym (rows_filled more k p (omega arith))
 
-pub rows_next : (more : List ℕ) {k : ℕ} → k < 13 → (p : ℕ) → p < 13 → last_rows more (k + 1) p ≡ last_rows more k p + get_or more (12 - k) 0 * ind p (12 - k)
-rows_next more {k} hk p hp = go (ℕ_discrete p (12 - k)) (dec_lt (p + k) 13)
+pub rows_next : (more : List ℕ) {k : ℕ} → 0 < k → (p : ℕ) → p < 13 → rows_from more (k - 1) p ≡ rows_from more k p + get_or more (k - 1) 0 * ind p (k - 1)
+rows_next more {k} hk p hp = go (ℕ_discrete p (k - 1)) (dec_lt p k)
   where
-    go : Dec (p ≡ 12 - k) → Dec (p + k < 13) → last_rows more (k + 1) p ≡ last_rows more k p + get_or more (12 - k) 0 * ind p (12 - k)
+    go : Dec (p ≡ k - 1) → Dec (p < k) → rows_from more (k - 1) p ≡ rows_from more k p + get_or more (k - 1) 0 * ind p (k - 1)
     go (yes e) d =
-        rw (e, ind_same (12 - k), rows_filled more (k + 1) (12 - k) (omega arith), rows_empty more k (12 - k) (omega arith)) (omega arith)
+        rw (e, ind_same (k - 1), rows_filled more (k - 1) (k - 1) (omega arith), rows_empty more k (k - 1) (omega arith)) (omega arith)
     go (no n) (yes l) =
-        rw (ind_other p (12 - k) n, rows_empty more (k + 1) p (omega arith), rows_empty more k p l) (omega arith)
+        rw (ind_other p (k - 1) n, rows_empty more (k - 1) p (omega arith), rows_empty more k p l) (omega arith)
     go (no n) (no l) =
-        rw (ind_other p (12 - k) n, rows_filled more (k + 1) p (omega arith), rows_filled more k p (omega arith)) (omega arith)
+        rw (ind_other p (k - 1) n, rows_filled more (k - 1) p (omega arith), rows_filled more k p (omega arith)) (omega arith)
 
-rows_le : (more : List ℕ) (k p : ℕ) → last_rows more k p ≤ get_or more p 0
-rows_le more k p = go (dec_lt (p + k) 13)
+rows_le : (more : List ℕ) (k p : ℕ) → rows_from more k p ≤ get_or more p 0
+rows_le more k p = go (dec_lt p k)
   where
-    go : Dec (p + k < 13) → last_rows more k p ≤ get_or more p 0
+    go : Dec (p < k) → rows_from more k p ≤ get_or more p 0
     go (yes l) = omega (arith, rows_empty more k p l)
     go (no n) = omega (arith, rows_filled more k p (omega arith))
 
--- with the last k rows filled, there is room in the row before
-pub room_next : {g g' : Board} {lack lack' : List ℕ} (more : List ℕ) {k : ℕ} → k < 13
-    → Feasible g (λ p. row_sum g p + get_or more p 0) (λ q. col_sum g q + get_or lack q 0) → RowsFilled g g' lack lack' (last_rows more k)
-    → Room g' lack' (12 - k) (get_or more (12 - k) 0)
+-- with the rows from row k on filled, there is room in the row before
+pub room_next : {g g' : Board} {lack lack' : List ℕ} (more : List ℕ) {k : ℕ} → 0 < k
+    → Feasible g (λ p. row_sum g p + get_or more p 0) (λ q. col_sum g q + get_or lack q 0) → RowsFilled g g' lack lack' (rows_from more k)
+    → Room g' lack' (k - 1) (get_or more (k - 1) 0)
 room_next {g} more {k} hk s f = record {
   rows = λ p. row_sum g p + get_or more p 0;
-  enough = λ p hp. omega (arith, f.rows p hp, rows_next more hk p hp, rows_le more (k + 1) p);
+  enough = λ p hp. omega (arith, f.rows p hp, rows_next more hk p hp, rows_le more (k - 1) p);
   feasible = feasible_filled f s;
 }
 

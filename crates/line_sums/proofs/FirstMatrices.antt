@@ -7,7 +7,7 @@ use native.Mathlib.Omega.{arith}
 use lib.ListN.{get_or, set, length-set, replicate, get_or-replicate}
 use Rattle.base.specs.Lists.{sum_to}
 use Rattle.base.proofs.Sums.{sum_ext, sum_zero}
-use Rattle.line_sums.specs.Clauses.{at, Caps, Matrix, Solvable, nth_cell, FirstMatrix, Board, board_of, start, Places, row_sum, col_sum, Flow, Feasible, RowsFilled, First, FreeOf, CopyOf, BytesOf}
+use Rattle.line_sums.specs.Clauses.{at, Caps, Matrix, Solvable, nth_cell, FirstMatrix, Board, board_of, start, Places, row_sum, col_sum, Flow, Feasible, RowsFilled, First, FreeOf, BytesOf}
 use Rattle.cell_order.specs.Order.{nth_row, nth_column}
 use Rattle.sets.specs.Clauses.{on, has}
 use Rattle.base.proofs.Lists.{each_more}
@@ -68,7 +68,7 @@ unfolding col_sum
 col_start up q h = sum_ext 13 (λ p. has zeros q p + has zeros p q) (λ p. 0) (λ p l. no_bit p q l h) ∙ sum_zero 13
 
 -- before the filling: every place under the cap is free and 0
-module _ {cap rows cols up lack : List ℕ} (b : Caps cap) (s : Solvable cap rows cols) (u : FreeOf cap up) (l : CopyOf cols lack) where
+module _ {cap rows cols up lack : List ℕ} (b : Caps cap) (s : Solvable cap rows cols) (u : FreeOf cap up) (l : lack ≡ cols) where
   pub places_start : Places up zeros zeros
   places_start = record {
     up_len = u.len;
@@ -84,7 +84,7 @@ module _ {cap rows cols up lack : List ℕ} (b : Caps cap) (s : Solvable cap row
   row_need p h = omega (arith, row_start up p h)
 
   col_need : (q : ℕ) → q < 13 → col_sum (start up zeros) q + get_or lack q 0 ≡ get_or cols q 0
-  col_need q h = omega (arith, col_start up q h, l.is q h)
+  col_need q h = rw l (omega (arith, col_start up q h))
 
   pub feasible_start : Feasible (start up zeros) (λ p. row_sum (start up zeros) p + get_or rows p 0) (λ q. col_sum (start up zeros) q + get_or lack q 0)
   feasible_start = record { w = s.w; pos = s.pos; x = s.x; flow = flow_of b under_start row_need col_need s.matrix }

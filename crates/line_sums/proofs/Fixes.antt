@@ -1,6 +1,7 @@
 -- Laws on the fixing of places. Assumes nothing.
 use mathlib.Core.Path.{◌≡◌, refl, sym, ap, ap₂, ◌∙◌}
 use mathlib.Core.List.{List}
+use Rattle.std.proofs.Common.{Option, Some, None, is_some, Bool, true, false, not}
 use Prim.Native.Nat.{ℕ, zero, suc, ◌+◌, ◌*◌, ◌≤◌, ◌<◌}
 use native.Mathlib.Decide.{ℕ_discrete, dec_lt}
 use native.Mathlib.Omega.{arith}
@@ -11,10 +12,12 @@ use Rattle.cell_order.specs.Order.{nth_row, nth_column, rank}
 use Rattle.cell_order.proofs.Ranks.{rank_row, rank_column}
 use Rattle.sets.specs.Clauses.{ind, on, has, Single, With, Without}
 use Rattle.line_sums.specs.Clauses.{nth_cell, Board, board_of, Places, row_sum, col_sum, Flow, Allowed, Fixed, First, PlaceFixed}
-use Rattle.paths.specs.Clauses.{Stuck, same_place, row_ones, col_ones, NotBoth, OneMore}
+use Rattle.paths.specs.Clauses.{Stuck, Augmented, same_place, row_ones, col_ones, NotBoth, OneMore}
 use Rattle.base.proofs.Sums.{sum_ext, sum_add}
 use Rattle.sets.proofs.Indicators.{ind_same, ind_eq}
 use Rattle.paths.proofs.Paths.{place_swap, place_other_row, place_other_col, place_in_row, gain_row, gain_col, taken, put}
+use Rattle.paths.specs.declared.FreePlaces.{FreePlaces}
+use Rattle.line_sums.specs.declared.places.AllPlaces.{AllPlaces}
 use Rattle.line_sums.proofs.Cuts.{cut}
 use Rattle.line_sums.proofs.Cells.{row_below, column_below, rank_is, row_inside, column_inside}
 
@@ -77,13 +80,17 @@ module _ {up down one up' down' : List ℕ} {row column : ℕ} (m : Places up do
   pub col_more : (q : ℕ) → col_sum (board_of up' down' one) q ≡ col_sum (board_of up down one) q + ind q column
   col_more q = omega (arith, col_split up down one q, col_split up' down' one q, v.in_col q)
 
+-- all places, from their three lists
+abbrev pub made : List ℕ → List ℕ → List ℕ → AllPlaces
+made up down one = record { free = record { up = up; down = down }; one = one }
+
 module _ {up down one : List ℕ} {i j : ℕ} (m : Places up down one) (hi : i < 13) (hj : j < 13) where
   -- a place that is free and 0
   module _ {r : ℕ} (e : has up i j ≡ 1) (w : Without (get_or up i 0) j r) where
     is_up : (x y : ℕ) → has (set up i r) x y + same_place x i y j ≡ has up x y
     is_up = taken up i j r m.up_len hi w
 
-    pub fix_up : PlaceFixed up down one (set up i r) down one i j
+    pub fix_up : PlaceFixed (made up down one) (made (set up i r) down one) i j
     fix_up = record {
       places = record {
         up_len = length-set up i r ∙ m.up_len;
@@ -103,7 +110,7 @@ module _ {up down one : List ℕ} {i j : ℕ} (m : Places up down one) (hi : i <
     }
 
   -- a place that is fixed
-  pub fix_none : {u d : ℕ} → u ≡ has up i j → (u ≡ 1 → ⊥) → d ≡ has down j i → (d ≡ 1 → ⊥) → PlaceFixed up down one up down one i j
+  pub fix_none : {u d : ℕ} → u ≡ has up i j → (u ≡ 1 → ⊥) → d ≡ has down j i → (d ≡ 1 → ⊥) → PlaceFixed (made up down one) (made up down one) i j
   fix_none eu nu ed nd =
       let z : has up i j + has down j i ≡ 0 = omega (arith, m.single i j hi hj) in record {
         places = m;
@@ -138,7 +145,7 @@ module _ {up down one : List ℕ} {i j : ℕ} (m : Places up down one) (hi : i <
     cols_down q = omega (arith, col_split up down one q, col_split up (set down j r) one q, gain_col (set down j r) down i j hi hj (λ x y. sym (is_down x y)) q)
 
     -- it can be 0
-    pub fix_zero : {up' down' : List ℕ} {ends end : ℕ} → Single j ends → on ends end ≡ 1 → OneMore up (set down j r) up' down' i end → PlaceFixed up down one up' down' one i j
+    pub fix_zero : {up' down' : List ℕ} {ends end : ℕ} → Single j ends → on ends end ≡ 1 → OneMore up (set down j r) up' down' i end → PlaceFixed (made up down one) (made up' down' one) i j
     fix_zero {up'} {down'} {ends} {end} l h v = record {
       places = places_more places_down v;
       fixed = record {
@@ -168,7 +175,7 @@ module _ {up down one : List ℕ} {i j : ℕ} (m : Places up down one) (hi : i <
 
     -- it cannot
     pub fix_one : {ends r' : ℕ} → Single j ends → Stuck up (set down j r) ends i → With (get_or one i 0) j r'
-        → PlaceFixed up down one up (set down j r) (set one i r') i j
+        → PlaceFixed (made up down one) (made up (set down j r) (set one i r')) i j
     fix_one {ends} {r'} l k v = record {
       places = record {
         up_len = m.up_len;
@@ -198,6 +205,16 @@ module _ {up down one : List ℕ} {i j : ℕ} (m : Places up down one) (hi : i <
             absurd (cut hi places_down k (record { w = 1; pos = omega arith; x = x; flow = flow_down x f o })
             (λ p h. omega (arith, rows_down p)) (omega (arith, rows_down i, ind_same i)) (λ q h z. omega (arith, cols_down q, l.is q)))
         least x f (suc n) o = omega (arith, bits i j, m.single i j hi hj)
+
+-- what a search for another place says, where it finds none and where it finds one
+module _ {m m' : FreePlaces} (ends i : ℕ) where
+  pub stuck_at : (o : Option ℕ) {b : Bool} → Augmented m m' ends i o → is_some o ≡ not b → b ≡ true → (m' ≡ m) × Stuck m.up m.down ends i
+  stuck_at (Some j) g e t = let x : true ≡ false = rw t at e in cc
+  stuck_at None g e t = g
+
+  pub moved_to : (o : Option ℕ) {b : Bool} → Augmented m m' ends i o → is_some o ≡ not b → b ≡ false → (j : ℕ) × ((on ends j ≡ 1) × OneMore m.up m.down m'.up m'.down i j)
+  moved_to (Some j) g e t = (j, (g.1, g.2))
+  moved_to None g e t = let x : false ≡ true = rw t at e in cc
 
 pub first_none : {g : Board} → First g g 0
 first_none = record {

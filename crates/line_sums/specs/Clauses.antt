@@ -4,6 +4,8 @@ use Rattle.std.specs.Prelude.{◌≡◌, ℕ, ◌+◌, ◌*◌, ◌<◌, ◌≤�
 use Rattle.base.specs.Lists.{sum_to}
 use Rattle.cell_order.specs.Order.{nth_row, nth_column}
 use Rattle.sets.specs.Clauses.{ind, on, has}
+use Rattle.paths.specs.declared.FreePlaces.{FreePlaces}
+use Rattle.line_sums.specs.declared.places.AllPlaces.{AllPlaces}
 
 -- the number at row p and column q of a 13 by 13 grid held in row order
 abbrev pub at : List ℕ → ℕ → ℕ → ℕ
@@ -103,28 +105,28 @@ pub record RowsFilled (g g' : Board) (lack lack' : List ℕ) (added : ℕ → �
 pub record Lacking (lack : List ℕ) (columns : ℕ) : Type 0 where
   pub is : (q : ℕ) → q < 13 → on columns q ≡ min (get_or lack q 0) 1
 
--- what the filling of a row by n more needs, and of all rows by what more says
-pub record RowReady (up down lack : List ℕ) (columns row n : ℕ) : Type 0 where
-  pub places : Places up down (replicate 13 0)
-  pub lack_len : length lack ≡ 13
-  pub lacks : Lacking lack columns
-  pub inside : row < 13
-  pub room : Room (start up down) lack row n
+-- column j lacks something
+pub record LacksOne (lack : List ℕ) (j : ℕ) : Type 0 where
+  pub inside : j < 13
+  pub len : length lack ≡ 13
+  pub some : 0 < get_or lack j 0
 
-pub record FillReady (up down lack more : List ℕ) : Type 0 where
-  pub places : Places up down (replicate 13 0)
+-- what the filling of a row by n more needs, and of all rows by what more says
+pub record RowReady (m : FreePlaces) (lack : List ℕ) (row n : ℕ) : Type 0 where
+  pub places : Places m.up m.down (replicate 13 0)
   pub lack_len : length lack ≡ 13
-  pub feasible : Feasible (start up down) (λ p. row_sum (start up down) p + get_or more p 0) (λ q. col_sum (start up down) q + get_or lack q 0)
+  pub inside : row < 13
+  pub room : Room (start m.up m.down) lack row n
+
+pub record FillReady (m : FreePlaces) (lack more : List ℕ) : Type 0 where
+  pub places : Places m.up m.down (replicate 13 0)
+  pub lack_len : length lack ≡ 13
+  pub feasible : Feasible (start m.up m.down) (λ p. row_sum (start m.up m.down) p + get_or more p 0) (λ q. col_sum (start m.up m.down) q + get_or lack q 0)
 
 -- and what it leaves
-pub record FilledBy (up down lack up' down' lack' : List ℕ) (added : ℕ → ℕ) : Type 0 where
-  pub places : Places up' down' (replicate 13 0)
-  pub filled : RowsFilled (start up down) (start up' down') lack lack' added
-
--- r is the set of columns with column j in it only where left is not 0
-pub record StillLacking (columns j left r : ℕ) : Type 0 where
-  pub here : on r j ≡ min left 1
-  pub others : (q : ℕ) → (q ≡ j → ⊥) → on r q ≡ on columns q
+pub record FilledBy (m : FreePlaces) (lack : List ℕ) (m' : FreePlaces) (lack' : List ℕ) (added : ℕ → ℕ) : Type 0 where
+  pub places : Places m'.up m'.down (replicate 13 0)
+  pub filled : RowsFilled (start m.up m.down) (start m'.up m'.down) lack lack' added
 
 -- x has g's line sums, and g's bits where they are fixed
 abbrev pub Allowed : Board → (ℕ → ℕ → ℕ) → Type 0
@@ -140,20 +142,24 @@ pub record Fixed (g g' : Board) (i j : ℕ) : Type 0 where
   pub kept : (p q : ℕ) → p < 13 → q < 13 → g.free p q ≡ 0 → g'.bit p q ≡ g.bit p q
   pub least : (x : ℕ → ℕ → ℕ) → Allowed g x → g'.bit i j ≤ x i j
 
+-- the board of all places
+abbrev pub board : AllPlaces → Board
+board m = board_of m.free.up m.free.down m.one
+
 -- what the fixing of a place needs, and of one that is free and 1
-pub record FixReady (up down one : List ℕ) (row column : ℕ) : Type 0 where
-  pub places : Places up down one
+pub record FixReady (m : AllPlaces) (row column : ℕ) : Type 0 where
+  pub places : Places m.free.up m.free.down m.one
   pub row_inside : row < 13
   pub column_inside : column < 13
 
-pub record LowerReady (up down one : List ℕ) (row column : ℕ) : Type 0 where
-  pub ready : FixReady up down one row column
-  pub is_one : has down column row ≡ 1
+pub record LowerReady (m : AllPlaces) (row column : ℕ) : Type 0 where
+  pub ready : FixReady m row column
+  pub is_one : has m.free.down column row ≡ 1
 
 -- and what it leaves
-pub record PlaceFixed (up down one up' down' one' : List ℕ) (row column : ℕ) : Type 0 where
-  pub places : Places up' down' one'
-  pub fixed : Fixed (board_of up down one) (board_of up' down' one') row column
+pub record PlaceFixed (m m' : AllPlaces) (row column : ℕ) : Type 0 where
+  pub places : Places m'.free.up m'.free.down m'.one
+  pub fixed : Fixed (board m) (board m') row column
 
 -- the first k cells of g, in the order in which cells are compared, come first among those of the matrices that have g₀'s sums and fixed places
 pub record First (g₀ g : Board) (k : ℕ) : Type 0 where
@@ -167,24 +173,14 @@ pub record First (g₀ g : Board) (k : ℕ) : Type 0 where
       → ((m : ℕ) → m < n → nth_cell x m ≡ nth_cell g.bit m) → nth_cell g.bit n ≤ nth_cell x n
 
 -- what the fixing of the first k cells leaves
-pub record CellsFixed (up down one up' down' one' : List ℕ) (k : ℕ) : Type 0 where
-  pub places : Places up' down' one'
-  pub first : First (board_of up down one) (board_of up' down' one') k
-
--- a cap, and room for its rows
-pub record FreeReady (cap up : List ℕ) : Type 0 where
-  pub caps : Caps cap
-  pub len : length up ≡ 13
+pub record CellsFixed (m m' : AllPlaces) (k : ℕ) : Type 0 where
+  pub places : Places m'.free.up m'.free.down m'.one
+  pub first : First (board m) (board m') k
 
 -- up has for each row the columns where the cap is 1
 pub record FreeOf (cap up : List ℕ) : Type 0 where
   pub len : length up ≡ 13
   pub is : (p q : ℕ) → p < 13 → q < 13 → has up p q ≡ at cap p q
-
--- r is the 13 numbers
-pub record CopyOf (numbers r : List ℕ) : Type 0 where
-  pub len : length r ≡ 13
-  pub is : (j : ℕ) → j < 13 → get_or r j 0 ≡ get_or numbers j 0
 
 -- the first n numbers of b are the bits of a board in row order
 pub record BytesOf (down one : List ℕ) (n : ℕ) (b : List ℕ) : Type 0 where

@@ -3,9 +3,9 @@
 
 ghost use Rattle.line_sums.specs.Clauses.{Asked, FirstMatrix};
 
-use crate::fill::fill;
-use crate::fixing::fix_all;
-use crate::places::{bytes_of, copy_of, free_places};
+use crate::fill::{Lack, fill};
+use crate::places::{AllPlaces, free_places};
+use paths::FreePlaces;
 
 mod fill;
 mod fixing;
@@ -16,12 +16,13 @@ pub fn first(cap: &[u8; 169], rows: &[u8; 13], cols: &[u8; 13]) -> [u8; 169]
     requires { Asked cap.now rows.now cols.now }
     ensures { FirstMatrix cap.now rows.now cols.now result }
 {
-    let mut up = [0u32; 13];
-    let mut down = [0u32; 13];
-    let mut one = [0u32; 13];
-    let mut lack = copy_of(cols);
-    free_places(cap, &mut up);
-    fill(&mut up, &mut down, &mut lack, rows);
-    fix_all(&mut up, &mut down, &mut one);
-    bytes_of(&down, &one)
+    let mut free = FreePlaces {
+        up: free_places(cap),
+        down: [0; 13],
+    };
+    let mut lack = Lack::new(cols);
+    fill(&mut free, &mut lack, rows);
+    let mut places = AllPlaces { free, one: [0; 13] };
+    places.fix_all();
+    places.bytes()
 }

@@ -8,7 +8,7 @@ use lib.ListN.{length, get_or, set, length-set}
 use lib.Seq.{get_or-set_same, get_or-set_other}
 use Rattle.base.specs.Lists.{sum_to}
 use Rattle.sets.specs.Clauses.{ind, has, With, Without, Via, Picked}
-use Rattle.paths.specs.Clauses.{Levels, Trail, same_place, Flipped, row_ones, col_ones, NotBoth, OneMore}
+use Rattle.paths.specs.Clauses.{Levels, Trail, same_place, FlipReady, Flipped, row_ones, col_ones, NotBoth, OneMore}
 use Rattle.base.proofs.Sums.{sum_ext, sum_add, sum_zero}
 use Rattle.sets.proofs.Indicators.{ind_same, ind_other, ind_le, ind_eq, sum_ind}
 
@@ -164,18 +164,6 @@ module _ {up₀ down₀ rows cols : List ℕ} {start end last : ℕ} {up down : 
   }
 
 module _ {up₀ down₀ rows cols : List ℕ} {start end last : ℕ} {up down : List ℕ} {p i : ℕ} (a : AtRow up₀ down₀ rows cols start end last up down p i) where
-  pub arrived : i ≡ 0 → OneMore up₀ down₀ up down start end
-  arrived e = record {
-    up_len = a.way.up_len;
-    down_len = a.way.down_len;
-    free = a.way.free;
-    in_row = λ x. a.in_row x ∙ ap (λ (n : ℕ). row_ones down₀ x + ind x n) same;
-    in_col = a.in_col;
-  }
-    where
-      same : p ≡ start
-      same = ind_eq p start (sym (a.way.levels.first p) ∙ subst (λ (n : ℕ). has rows n p ≡ 1) e a.member)
-
   module _ (pos : 0 < i) where
     back : Via down₀ (get_or cols (i - 1) 0) p
     back = a.way.levels.row_from (i - 1) p (omega (arith, a.way.at_most)) (let e : i - 1 + 1 ≡ i = omega arith in rw e a.member)
@@ -211,3 +199,34 @@ module _ {up₀ down₀ rows cols : List ℕ} {start end last : ℕ} {up down : 
       where
         is : (x y : ℕ) → has down y x ≡ has down' y x + same_place x p y q
         is x y = omega (arith, m.a_is y x, place_swap y q x p)
+
+-- one level back
+pub level_back : {up₀ down₀ rows cols : List ℕ} {start end last : ℕ} {up down up' down' up″ down″ : List ℕ} {p q q' i : ℕ} → AtCol up₀ down₀ rows cols start end last up down q i → 0 < i
+    → Picked up (get_or rows (i - 1 + 1) 0) q p → Flipped up down up' down' p q → Picked down' (get_or cols (i - 1) 0) p q' → Flipped down' up' down″ up″ q' p
+    → AtCol up₀ down₀ rows cols start end last up″ down″ q' (i - 1)
+level_back {rows = rows} {up = up} {p = p} {q = q} {i = i} a pos c m c' m' =
+    let e : i - 1 + 1 ≡ i = omega arith in
+    lowered (raised a (subst (λ (n : ℕ). Picked up (get_or rows n 0) q p) e c) m) pos c' m'
+
+-- the one row of level 0 is the start
+module _ {up₀ down₀ rows cols : List ℕ} {start end last : ℕ} {up down : List ℕ} {q i : ℕ} (a : AtCol up₀ down₀ rows cols start end last up down q i) (z : i ≤ 0) where
+  from_start : Picked up (get_or rows i 0) q start
+  from_start =
+      let v = col_via a in
+      let e : i ≡ 0 = omega arith in
+      subst (λ (n : ℕ). Picked up (get_or rows i 0) q n) (ind_eq v.p start (sym (a.way.levels.first v.p) ∙ subst (λ (n : ℕ). has rows n v.p ≡ 1) e v.picked.member)) v.picked
+
+  pub last_ready : FlipReady up down start q
+  last_ready = record {
+    a_len = a.way.up_len;
+    b_len = a.way.down_len;
+    p_inside = from_start.below;
+    q_inside = a.below;
+    in_a = from_start.linked;
+    not_in_b = col_free a from_start;
+  }
+
+  pub arrived : {up' down' : List ℕ} → Flipped up down up' down' start q → OneMore up₀ down₀ up' down' start end
+  arrived m =
+      let r = raised a from_start m in
+      record { up_len = r.way.up_len; down_len = r.way.down_len; free = r.way.free; in_row = r.in_row; in_col = r.in_col }

@@ -10,7 +10,7 @@ use lib.ListN.{length, get_or, set, length-set}
 use lib.Seq.{get_or-set_same, get_or-set_other}
 use Rattle.base.specs.Lists.{sum_to}
 use Rattle.sets.specs.Clauses.{on, has, Single, Some, Meet, Minus, Via, UnionOf}
-use Rattle.paths.specs.Clauses.{Levels, SearchFound, Nowhere}
+use Rattle.paths.specs.Clauses.{Levels, Trail, Stuck}
 use Rattle.base.proofs.Sums.{sum_lt, sum_ones, sum_term}
 use Rattle.sets.proofs.Indicators.{ind_same, ind_other}
 use Rattle.sets.proofs.Members.{on_le, on_zero, on_all, nonempty}
@@ -77,42 +77,34 @@ module _ (up down rows cols : List ℕ) (ends : ℕ) {start front rows_left : �
   }
 
 -- nothing leads on
-stuck : {up down rows cols : List ℕ} {ends start k front rows_left cols_left : ℕ} (column level : ℕ) → column ≡ 13 → Progress up down ends start rows cols k front rows_left cols_left
-    → ((p q : ℕ) → p < 13 → q < 13 → has up p q + on cols_left q ≤ 1 + on rows_left p) → SearchFound up down ends start rows cols column level
-stuck {rows_left = rows_left} {cols_left = cols_left} column level e t u = record {
-  bound = omega arith;
-  found = λ l. absurd (omega arith);
-  none = λ z. record { rows_left = rows_left; cols_left = cols_left; begin = t.begin; ups = u; downs = t.downs; full = t.full };
-}
+stuck : {up down rows cols : List ℕ} {ends start k front rows_left cols_left : ℕ} → Progress up down ends start rows cols k front rows_left cols_left
+    → ((p q : ℕ) → p < 13 → q < 13 → has up p q + on cols_left q ≤ 1 + on rows_left p) → Stuck up down ends start
+stuck {rows_left = rows_left} {cols_left = cols_left} t u = record { rows_left = rows_left; cols_left = cols_left; begin = t.begin; ups = u; downs = t.downs; full = t.full }
 
 module _ {up down rows cols : List ℕ} {ends start k front rows_left cols_left g next : ℕ} (t : Progress up down ends start rows cols k front rows_left cols_left) (a : UnionOf up front g) (b : Meet g cols_left next) where
-  pub progress_found : {h v : ℕ} → k < 13 → Meet ends next h → Some h v → SearchFound up down ends start rows cols v k
-  progress_found {h} {v} hk m o = record {
-    bound = omega (arith, o.below);
-    found = λ l. (
-      omega (arith, m.is v, o.is, on_le ends v),
-      record {
-        levels = t.levels;
-        level = hk;
-        below = l;
-        via = subst (λ (n : ℕ). Via up n v) (sym t.last) (a.from v (omega (arith, m.is v, o.is, b.is v, on_le g v)));
-        new = λ i l. omega (arith, t.col_seen i v l, m.is v, o.is, b.is v);
-      },
-    );
-    none = λ e. absurd (omega (arith, o.below));
-  }
+  pub progress_found : {h v : ℕ} → k < 13 → Meet ends next h → Some h v → (on ends v ≡ 1) × Trail up down rows cols start v k
+  progress_found {h} {v} hk m o = (
+    omega (arith, m.is v, o.is, on_le ends v),
+    record {
+      levels = t.levels;
+      level = hk;
+      below = o.below;
+      via = subst (λ (n : ℕ). Via up n v) (sym t.last) (a.from v (omega (arith, m.is v, o.is, b.is v, on_le g v)));
+      new = λ i l. omega (arith, t.col_seen i v l, m.is v, o.is, b.is v);
+    },
+  )
 
   -- no column is new
-  pub progress_shut : next ≡ 0 → (column level : ℕ) → Nowhere column level → SearchFound up down ends start rows cols column level
-  progress_shut e column level n =
-      stuck column level n.no_column t (λ p q hp hq. omega (arith, t.ups p q hp hq, a.all p q, b.is q, empty q, on_le front p, on_le cols_left q, on_le (get_or up p 0) q))
+  pub progress_shut : next ≡ 0 → Stuck up down ends start
+  progress_shut e =
+      stuck t (λ p q hp hq. omega (arith, t.ups p q hp hq, a.all p q, b.is q, empty q, on_le front p, on_le cols_left q, on_le (get_or up p 0) q))
     where
       empty : (q : ℕ) → on next q ≡ 0
       empty q = ap (λ (n : ℕ). on n q) e ∙ on_zero q
 
 -- every column is reached
-pub progress_full : {up down rows cols : List ℕ} {ends start k front rows_left cols_left : ℕ} → Progress up down ends start rows cols k front rows_left cols_left → 13 ≤ k → (column level : ℕ) → Nowhere column level → SearchFound up down ends start rows cols column level
-progress_full {up} {cols_left = cols_left} t h column level n = stuck column level n.no_column t (λ p q hp hq. omega (arith, none q hq, on_le (get_or up p 0) q))
+pub progress_full : {up down rows cols : List ℕ} {ends start k front rows_left cols_left : ℕ} → Progress up down ends start rows cols k front rows_left cols_left → 13 ≤ k → Stuck up down ends start
+progress_full {up} {cols_left = cols_left} t h = stuck t (λ p q hp hq. omega (arith, none q hq, on_le (get_or up p 0) q))
   where
     none : (q : ℕ) → q < 13 → on cols_left q ≡ 0
     none q hq = omega (arith, t.count, sum_term 13 (λ j. on cols_left j) q hq)

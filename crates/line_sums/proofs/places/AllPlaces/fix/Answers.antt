@@ -1,6 +1,6 @@
 use native.Mathlib.Omega.{arith}
 use Rattle.line_sums.proofs.Fixes.{fix_up}
-use Rattle.line_sums.proofs.fixing.fix.Goals as goal
+use Rattle.line_sums.proofs.places.AllPlaces.fix.Goals as goal
 
 pub returns-then-member-eq1 : goal.returns-then-member-eq1
 returns-then-member-eq1 c =

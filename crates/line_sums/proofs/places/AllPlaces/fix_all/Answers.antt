@@ -1,7 +1,7 @@
 use borrow.Author.Rules.{rules}
 use native.Mathlib.Omega.{arith}
 use Rattle.line_sums.proofs.Fixes.{first_next, cell_inside}
-use Rattle.line_sums.proofs.fixing.fix_all.Goals as goal
+use Rattle.line_sums.proofs.places.AllPlaces.fix_all.Goals as goal
 
 pub fix-requires : goal.fix-requires
 fix-requires c =

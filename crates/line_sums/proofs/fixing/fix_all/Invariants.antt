@@ -1,6 +1,0 @@
-use Prim.Native.Nat.{◌≤◌}
-use Rattle.line_sums.specs.Clauses.{CellsFixed}
-use Rattle.line_sums.proofs.fixing.fix_all.Given as goal
-
-abbrev pub invariant-loop-n : goal.invariant-loop-n
-invariant-loop-n l = (l.n ≤ 144) × CellsFixed l.initial.up l.initial.down l.initial.one l.up l.down l.one l.n
