@@ -1,5 +1,5 @@
 // The limits of a round, and its weight.
-ghost use Rattle.std.specs.Prelude.{◌≡◌, min};
+ghost use Rattle.std.specs.Prelude.{◌≡◌};
 ghost use Rattle.base.specs.Lists.{tabulate};
 ghost use Rattle.planning.specs.Rounds.{limit_of};
 ghost use Rattle.planning.specs.Clauses.{LimitReady, LimitsReady, limit_at, Smallest, Bears, Lost};
@@ -24,27 +24,16 @@ pub fn limits(w: u64, e: &[u64; 169], q: &[u64; 169], n: &[u64; 169], l: &mut [u
     requires { LimitsReady w e.now q.now n.now l.old }
     ensures { l.new ≡ tabulate 169 (limit_at w e.now n.now) }
 {
-    for k in 0..169 {
-        l[k] = limit(w, e[k], q[k], n[k]);
+    for (k, x) in l.iter_mut().enumerate() {
+        *x = limit(w, e[k], q[k], n[k]);
     }
-}
-
-// The smaller of two numbers.
-fn smaller(x: u64, y: u64) -> u64
-    ensures { result ≡ min x y }
-{
-    if y < x { y } else { x }
 }
 
 // The smallest of 169 numbers.
 pub fn smallest(l: &[u64; 169]) -> u64
     ensures { Smallest l.now result }
 {
-    let mut x = l[0];
-    for k in 1..169 {
-        x = smaller(x, l[k]);
-    }
-    x
+    l.iter().fold(l[0], |x, y| x.min(*y))
 }
 
 // Takes x times each count off its entry.
@@ -52,7 +41,7 @@ pub fn lose(x: u64, n: &[u64; 169], e: &mut [u64; 169])
     requires { Bears x e.old n.now }
     ensures { Lost x e.old n.now e.new }
 {
-    for k in 0..169 {
-        e[k] = e[k] - x * n[k];
+    for (k, entry) in e.iter_mut().enumerate() {
+        *entry -= x * n[k];
     }
 }

@@ -4,7 +4,7 @@ use borrow.Author.Rules.{rules}
 use Rattle.planning.proofs.limits.limits.Goals as goal
 
 pub limit-requires : goal.limit-requires
-limit-requires c = limit_ready c.requires.rounded c.requires.quotients c.loop-k-test.true
+limit-requires c = search (rules, limit_ready)
 
 pub returns : goal.returns
 returns c = search (rules, listed_all)
