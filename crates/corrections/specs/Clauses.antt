@@ -1,15 +1,11 @@
 -- What the functions inside require and promise. Assumes nothing.
 use Rattle.std.specs.Prelude.{◌≡◌, List, map, ℕ, ◌*◌, ◌<◌, ◌≤◌, ℤ, pos, ◌+ℤ◌, length, get_or, None}
-use Rattle.std.specs.Int.{w16, w64}
+use Rattle.std.specs.Int.{w16}
 use Rattle.std.proofs.Common.{SFits}
 use Rattle.base.specs.Lists.{tabulate}
 use Rattle.table.specs.Table.{max_denominator}
 use Rattle.division.specs.Division.{down, rest}
 use Rattle.correction_check.specs.Check.{table_refusal}
-
--- two numbers whose sum fits 64 bits
-abbrev pub Summable : ℤ → ℤ → Type 0
-Summable x y = SFits w64 (x +ℤ y)
 
 -- what is left over of each cell by D: a table without a cell below zero
 abbrev pub rests : ℕ → List ℤ → List ℕ

@@ -1,7 +1,7 @@
 // Cells of either sign, divided by the denominator: what is left over, which is a table without a cell below zero, and the counts from its rounding.
-ghost use Rattle.std.specs.Prelude.{◌≡◌, ◌+ℤ◌};
+ghost use Rattle.std.specs.Prelude.{◌≡◌};
 ghost use Rattle.base.specs.Buffers.{written};
-ghost use Rattle.corrections.specs.Clauses.{Summable, rests, RestsReady, count_of, counts_of, CountReady, CountsReady};
+ghost use Rattle.corrections.specs.Clauses.{rests, RestsReady, count_of, counts_of, CountReady, CountsReady};
 
 use division::divide;
 
@@ -10,19 +10,10 @@ pub fn remainders(cells: &[i32], denominator: u64, out: &mut [u32])
     requires { RestsReady denominator cells.now out.old }
     ensures { out.new ≡ written (rests denominator cells.now) out.old }
 {
-    for k in 0..cells.len() {
-        let cell = cells[k];
-        let d = divide(i64::from(cell), denominator);
+    for (k, cell) in cells.iter().enumerate() {
+        let d = divide(i64::from(*cell), denominator);
         out[k] = d.rest as u32;
     }
-}
-
-// The sum of two numbers.
-fn sum(x: i64, y: i64) -> i64
-    requires { Summable x y }
-    ensures { result ≡ x +ℤ y }
-{
-    x + y
 }
 
 // The count of a cell: the cell rounded down, and the count of what is left over.
@@ -31,8 +22,7 @@ fn count(cell: i32, denominator: u64, first: u16) -> i16
     ensures { result ≡ count_of denominator cell first }
 {
     let d = divide(i64::from(cell), denominator);
-    let n = u64::from(first) as i64;
-    sum(d.whole, n) as i16
+    (d.whole + i64::from(first)) as i16
 }
 
 // The counts of all cells.
@@ -40,9 +30,7 @@ pub fn counts(cells: &[i32], denominator: u64, firsts: &[u16; 144], out: &mut [i
     requires { CountsReady denominator cells.now firsts.now out.old }
     ensures { out.new ≡ written (counts_of denominator cells.now firsts.now) out.old }
 {
-    for k in 0..cells.len() {
-        let cell = cells[k];
-        let n = count(cell, denominator, firsts[k]);
-        out[k] = n;
+    for (k, cell) in cells.iter().enumerate() {
+        out[k] = count(*cell, denominator, firsts[k]);
     }
 }

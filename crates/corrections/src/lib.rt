@@ -34,7 +34,14 @@ fn write_counts(t: Table, cells: &[i32], out: &mut [i16])
 }
 
 // Writes the first controlled rounding of a table of corrections, or returns the lowest refusal that applies.
-pub fn round(rows: u32, columns: u32, denominator: u32, cells: &[i32], out: &mut [i16]) -> Result<(), Refusal>
+// stays: beside rounding::round, which has cells of another type; one generic function would need a trait with a check and a writer, and be longer than both.
+pub fn round(
+    rows: u32,
+    columns: u32,
+    denominator: u32,
+    cells: &[i32],
+    out: &mut [i16],
+) -> Result<(), Refusal>
     ensures { Answers (round_refusal rows columns denominator cells.now (length out.old))
         (written (first_rounding rows columns denominator cells.now) out.old) out.old result out.new }
 {

@@ -7,4 +7,4 @@ pub loop-k-init : goal.loop-k-init
 loop-k-init c = search (rules, stored_none)
 
 pub loop-k-preserved : goal.loop-k-preserved
-loop-k-preserved c = (search rules, search rules, counts_more c.requires c.loop-k-test.true (search rules) c.loop-k.invariant.2 c.count-n.ensures)
+loop-k-preserved c = counts_more c.requires c.loop-k-test.true (search rules) c.loop-k.invariant c.count.ensures

@@ -7,11 +7,7 @@ pub loop-k-init : goal.loop-k-init
 loop-k-init c = search (rules, stored_none)
 
 pub loop-k-preserved : goal.loop-k-preserved
-loop-k-preserved c = (
-  search rules,
-  search rules,
-  rests_more c.requires _ (search rules) c.i32_to_i64.ensures c.divide-d.ensures c.loop-k.invariant.2 c.loop-k-test.true c.u64_to_u32.ensures,
-)
+loop-k-preserved c = rests_more c.requires (search rules) c.from.ensures c.divide-d.ensures c.loop-k.invariant c.loop-k-test.true
 
 pub returns : goal.returns
 returns c = search (rules, rests_all)

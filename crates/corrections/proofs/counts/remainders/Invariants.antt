@@ -1,10 +1,8 @@
-use Prim.Native.Nat.{◌≤◌}
-use mathlib.Core.Path.{◌≡◌}
 use lib.IntN.{pos}
-use lib.ListN.{length, get_or}
+use lib.ListN.{get_or}
 use Rattle.base.proofs.Storing.{Stored}
 use Rattle.division.specs.Division.{rest}
 use Rattle.corrections.proofs.counts.remainders.Given as goal
 
 abbrev pub invariant-loop-k : goal.invariant-loop-k
-invariant-loop-k l = (l.k ≤ l.k-end) × (l.k-end ≡ length l.cells) × Stored (λ i. rest l.denominator (get_or l.cells i (pos 0))) l.initial.out l.out l.k
+invariant-loop-k l = Stored (λ i. rest l.denominator (get_or l.cells i (pos 0))) l.initial.out l.out l.k
