@@ -27,11 +27,8 @@ pub fn output(input: &[u8], out: &mut [u8]) -> usize
     requires { max_listing ≤ length out.old }
     ensures { Wrote out.old 0 (output input.now) out.new result }
 {
-    let parsed = parse(input);
-    if !parsed.accepted {
+    let Some(n) = parse(input) else {
         return print_text_refusal(out, 0);
-    }
-    let n = parsed.numbers;
-    let count = parsed.count;
-    output_table(n[0], n[1], n[2], &n[3..count], out)
+    };
+    output_table(n.numbers[0], n.numbers[1], n.numbers[2], &n.numbers[3..n.count], out)
 }
