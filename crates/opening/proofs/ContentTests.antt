@@ -127,16 +127,12 @@ module _ {s : Sizes} {b : List ℕ} (z : Sized s b) {k : ℕ} where
       }
 
 -- the two tests of the arrays
-module _ {s : Sizes} {b cells : List ℕ} (t : TableOf s b cells) where
-  z : Sized s b
-  z = t.sized
-
+module _ {s : Sizes} {b cells : List ℕ} (z : Sized s b) (t : TableOf s b cells) where
   pub table_shape : Shape s.rows s.columns cells
   table_shape = sized_shape z cells (ap length t.is ∙ cells_length b)
 
   pub table_arrays : {low high : List ℕ} → Bounds (entry_places s.rows s.columns) s.denominator cells low high → ArraysTo s b low high 0 (replicate 144 0)
   table_arrays u = record {
-    sized = z;
     bounds = rw t.is at u;
     sums_are = sums_none _ _ _ (omega (arith, cells_are z, sized_few z));
   }
@@ -190,7 +186,6 @@ module _ {s : Sizes} {b : List ℕ} (z : Sized s b) where
       module _ (xh : not x ≡ false) where
         pub table_is : TableOf s b (take count scratch)
         table_is = record {
-          sized = z;
           is = cells_read;
           cells_are = record {
             some = sized_some z;

@@ -3,9 +3,8 @@ use Rattle.std.specs.Prelude.{Option, Some, None, Ok, Err}
 use mathlib.Core.Path.{◌≡◌, refl, sym, ◌∙◌}
 use mathlib.Core.Bool.{Bool, true, false, not}
 use mathlib.Core.List.{List}
-use Prim.Native.Nat.{ℕ, ◌*◌, ◌≤◌}
+use Prim.Native.Nat.{ℕ, ◌*◌}
 use native.Mathlib.Omega.{arith}
-use lib.ListN.{length}
 use mir.Val.{Fits}
 use mir.Syntax.{w64}
 use borrow.Author.Tests.{not-true, not-false}
@@ -15,32 +14,22 @@ use Rattle.refusals.specs.Due.{due, refused_or}
 use Rattle.refusals.proofs.Dues.{not_here, not_later}
 use Rattle.form.specs.declared.Sizes.{Sizes}
 use Rattle.form.specs.Form.{sizes_of, laid_out, decode}
-use Rattle.form.proofs.Layouts.{laid}
 use Rattle.opening.specs.Open.{consistent, open_refusal, Opens, open_answer}
 use Rattle.reading.specs.Clauses.{Sized}
 use Rattle.reading.proofs.Sizing.{sized_fits}
 
-module _ (b : List ℕ) (t : Bool) (e : t ≡ laid_out b) where
-  pub not_laid : not t ≡ true → Err Layout ≡ open_answer b
+pub not_laid : (b : List ℕ) → laid_out b ≡ false → open_answer b ≡ Err Layout
+unfolding open_answer open_refusal due
+not_laid b h = simp h
+
+module _ {s : Sizes} {b : List ℕ} (z : Sized s b) {x : Bool} (e : x ≡ consistent (decode b)) where
+  pub not_consistent : not x ≡ true → open_answer b ≡ Err Content
   unfolding open_answer open_refusal due
-  not_laid h = simp (sym e ∙ not-true t h)
+  not_consistent h = simp (z.laid_out_is, sym e ∙ not-true x h)
 
-  module _ (h : not t ≡ false) where
-    pub laid_long : 16 ≤ length b
-    laid_long = omega (arith, (laid b (sym e ∙ not-false t h)).len)
-
-    module _ (s : Sizes) (is : s ≡ sizes_of b) where
-      pub laid_sizes : Sized s b
-      laid_sizes = record { laid_out_is = sym e ∙ not-false t h; sizes = is }
-
-      module _ (x : Bool) (xe : x ≡ consistent (decode b)) where
-        pub not_consistent : not x ≡ true → Err Content ≡ open_answer b
-        unfolding open_answer open_refusal due
-        not_consistent q = simp (sym e ∙ not-false t h, sym xe ∙ not-true x q)
-
-        pub plan_opened : not x ≡ false → Ok s ≡ open_answer b
-        unfolding open_answer open_refusal due
-        plan_opened q = simp (sym e ∙ not-false t h, sym xe ∙ not-false x q, is)
+  pub plan_opened : not x ≡ false → open_answer b ≡ Ok s
+  unfolding open_answer open_refusal due
+  plan_opened h = simp (z.laid_out_is, sym e ∙ not-false x h, z.sizes)
 
 -- what a plan that opens meets
 module _ (b : List ℕ) (h : Opens b) where

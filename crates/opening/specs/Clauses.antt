@@ -5,7 +5,6 @@ use Rattle.table.specs.Table.{entry_places}
 use Rattle.form.specs.declared.Sizes.{Sizes}
 use Rattle.weighted_arrays.specs.Plan.{Plan, array_at, cell_count}
 use Rattle.form.specs.Form.{decode}
-use Rattle.reading.specs.Clauses.{Sized}
 use Rattle.opening.specs.Open.{held, weighted}
 use Rattle.is_rounding.specs.Clauses.{Cells, Bounds}
 use Rattle.weighted_arrays.specs.Clauses.{SumsTo, weight_at}
@@ -20,7 +19,6 @@ arrays_right p = all (held p) p.arrays && every (cell_count p) (λ i. eqb (weigh
 
 -- what is known before array k of a plan is tested, with the array itself, and after it
 pub record ArraysTo (s : Sizes) (b low high : List ℕ) (k : ℕ) (sums : List ℕ) : Type 0 where
-  pub sized : Sized s b
   pub bounds : Bounds (entry_places s.rows s.columns) s.denominator (decode b).cells low high
   pub sums_are : SumsTo (weight_at (decode b).arrays) (decode b).arrays (cell_count (decode b)) k sums
 
@@ -38,6 +36,5 @@ pub record ArraysTested (b : List ℕ) (r : Bool) (sums : List ℕ) : Type 0 whe
 
 -- the cells of a plan's table, within their bound
 pub record TableOf (s : Sizes) (b cells : List ℕ) : Type 0 where
-  pub sized : Sized s b
   pub is : cells ≡ (decode b).cells
   pub cells_are : Cells s.denominator cells

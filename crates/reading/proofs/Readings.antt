@@ -157,3 +157,7 @@ module _ {b : List ℕ} {k : ℕ} {counts : List ℕ} (h : HasCounts b k counts)
           let same : tabulate (s.rows * s.columns) (count_in (take (length b - at) (drop at b))) ≡ tabulate (rows_of b * columns_of b) (count_of b (k + 1)) =
           rw (part, e) (tabulate_ext _ _ _ (λ i l. number_drop 2 (offset_of b (k + 1)) b (2 * i))) in
           q ∙ ap (λ (l : List ℕ). written l old) (same ∙ sym (decode_counts b k h.array.there))
+
+-- a plan that is laid out has a head
+pub laid_long : (b : List ℕ) → laid_out b ≡ true → 16 ≤ length b
+laid_long b h = omega (arith, (laid b h).len)

@@ -6,8 +6,7 @@ use Rattle.opening.proofs.content.arrays_held.Goals as goal
 
 pub returns-then-not-array_held : goal.returns-then-not-array_held
 returns-then-not-array_held c =
-    let there = rw c.loop-k.invariant.1 at c.loop-k-test.true in
-    array_fails c.requires.sized there c.array_held.ensures.answer (ap not c.if-not-array_held.true)
+    array_fails c.args.plan.now.laid_out c.loop-k-test.true c.array_held.ensures.answer (ap not c.if-not-array_held.true)
 
 pub returns : goal.returns
-returns c = arrays_pass c.requires.sized c.loop-k.invariant.2 c.loop-k.invariant.3 (omega arith) (omega arith)
+returns c = arrays_pass c.args.plan.now.laid_out c.loop-k.invariant.0 c.loop-k.invariant.1 (omega arith) (omega arith)

@@ -5,16 +5,16 @@ use borrow.Author.Rules.{rules}
 use Rattle.opening.proofs.content.arrays_right.Goals as goal
 
 pub of-bounds-requires : goal.of-bounds-requires
-of-bounds-requires c = record { shape = table_shape c.requires; cells_are = rw c.from.ensures c.requires.cells_are }
+of-bounds-requires c = record { shape = table_shape c.args.plan.now.laid_out c.requires; cells_are = rw c.from.ensures c.requires.cells_are }
 
 pub arrays_held-requires : goal.arrays_held-requires
-arrays_held-requires c = table_arrays c.requires (rw c.from.ensures at c.of-bounds.ensures)
+arrays_held-requires c = table_arrays c.args.plan.now.laid_out c.requires (rw c.from.ensures at c.of-bounds.ensures)
 
 pub returns-then-not-arrays_held : goal.returns-then-not-arrays_held
-returns-then-not-arrays_held c = arrays_unheld c.requires c.arrays_held.ensures (ap not c.if-not-arrays_held.true)
+returns-then-not-arrays_held c = arrays_unheld c.args.plan.now.laid_out c.requires c.arrays_held.ensures (ap not c.if-not-arrays_held.true)
 
 pub cells_met-requires : goal.cells_met-requires
 cells_met-requires c = search (rules, table_few)
 
 pub returns : goal.returns
-returns c = arrays_met c.requires c.arrays_held.ensures (ap not c.if-not-arrays_held.false) c.cells_met.ensures
+returns c = arrays_met c.args.plan.now.laid_out c.requires c.arrays_held.ensures (ap not c.if-not-arrays_held.false) c.cells_met.ensures

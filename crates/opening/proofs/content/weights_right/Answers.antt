@@ -1,13 +1,9 @@
-use Rattle.reading.proofs.Sizing.{has_array}
 use Rattle.opening.proofs.ContentTests.{weighed_none, no_weight, weights_fit, weighed_more, weighed_all}
 use borrow.Author.Rules.{rules}
 use Rattle.opening.proofs.content.weights_right.Goals as goal
 
 pub loop-k-init : goal.loop-k-init
 loop-k-init c = search (rules, weighed_none)
-
-pub weight-w-requires : goal.weight-w-requires
-weight-w-requires c = search (rules, has_array)
 
 pub returns-then-w-lt1 : goal.returns-then-w-lt1
 returns-then-w-lt1 c = search (rules, no_weight)
