@@ -1,23 +1,28 @@
 -- Laws on the test of a record: the numbers taken of each array, the count and the tally by them, and where a campaign can stand. Assumes nothing.
 use mathlib.Core.Path.{◌≡◌, refl, sym, ap, ◌∙◌}
-use mathlib.Core.Bool.{Bool, true, false, not, ◌&&◌}
+use mathlib.Core.Bool.{◌&&◌}
 use mathlib.Core.List.{List, []}
-use Prim.Native.Nat.{ℕ, zero, suc, ◌+◌, ◌-◌, ◌*◌, ◌/◌, ◌<◌, ◌≤◌}
+use Prim.Native.Nat.{ℕ, zero, suc, ◌+◌, ◌-◌, ◌*◌, ◌<◌, ◌≤◌}
 use native.Mathlib.Nat.{mul_comm}
+use native.Mathlib.Decide.{ℕ_discrete}
+use native.Mathlib.Numerals.{add-one}
 use native.Mathlib.Omega.{arith}
-use lib.ListN.{length, get_or, set, replicate, length-replicate}
+use lib.ListN.{length, get_or, set, take, replicate, length-replicate}
+use lib.Seq.{length-take-le, get_or-take}
 use lib.Dec.{eqb}
 use mir.Val.{Fits}
-use mir.Syntax.{w32, w64}
-use borrow.Author.Tests.{le-leb, lt-leb, lt-ltb, le-ltb, eq-eqb, ne_eqb, not-true, not-false}
+use mir.Syntax.{w64}
+use borrow.Author.Tests.{ne_eqb}
+use Rattle.std.specs.List.{sum}
+use Rattle.std.proofs.lemmas.List.Sums.{sum_by_more}
 use Rattle.base.specs.Lists.{tabulate, sum_to, every}
 use Rattle.base.specs.Clauses.{Filled}
 use Rattle.base.proofs.Lists.{length_tabulate, get_d_tabulate}
-use Rattle.base.proofs.Sums.{sum_ext, sum_mul, sum_ones, sum_term, sum_add_range, sum_places}
-use Rattle.base.proofs.Every.{every_ext, sum_none}
-use Rattle.base.proofs.SumLoops.{Summed, sum_more, summed_more, summed_all}
+use Rattle.base.proofs.Sums.{sum_ext, sum_mul, sum_ones, sum_add_range, sum_places}
+use Rattle.base.proofs.Every.{every_ext}
+use Rattle.base.proofs.SumLoops.{sum_more}
 use Rattle.base.proofs.Filling.{filled_none, front_more, front_all}
-use Rattle.base.proofs.Buffers.{written_at}
+use Rattle.base.proofs.Buffers.{written_at, written_length}
 use Rattle.form.specs.declared.Sizes.{Sizes}
 use Rattle.weighted_arrays.specs.Plan.{Weighted, array_at, cell_count, array_for, weights_before}
 use Rattle.form.specs.Form.{decode}
@@ -27,10 +32,10 @@ use Rattle.weighted_arrays.specs.Clauses.{weight_at, factored}
 use Rattle.weighted_arrays.proofs.Belonging.{array_for_lem}
 use Rattle.opening.proofs.Opening.{is_open, opened_sized}
 use Rattle.opening.proofs.Opens.{weights_add_up}
-use Rattle.records.specs.Record.{record_of, spare_clear, taken_sum, within, fits}
-use Rattle.bits.specs.Bits.{bit_of, bit_bytes}
-use Rattle.bits.specs.Clauses.{bits_set, Span}
-use Rattle.records.specs.Clauses.{taken_of, taken_numbers, Few, Numbered, Tallied, tally_fits, Fitted}
+use Rattle.records.specs.Record.{record_of, taken_sum, within, fits}
+use Rattle.bits.specs.Bits.{bit_of, spare_clear}
+use Rattle.bits.specs.Clauses.{bits_set, Span, Spared}
+use Rattle.records.specs.Clauses.{taken_of, taken_numbers, Numbered, Tallied, tally_fits, Fitted}
 use Rattle.bits.proofs.Bits.{bit_le}
 
 -- a shorter sum
@@ -46,6 +51,17 @@ module _ {s : Sizes} {b : List ℕ} (z : Sized s b) where
 
   pub arrays_few : length (decode b).arrays ≤ 170
   arrays_few = omega (arith, arrays_are z, sized_arrays z)
+
+  -- the part of a list of numbers for arrays that has one for each
+  module _ (taken : List ℕ) (e : length taken ≡ 170) where
+    pub part_length : length (take s.arrays taken) ≡ s.arrays
+    part_length = length-take-le s.arrays taken (omega (arith, sized_arrays z))
+
+    pub part_end : length (take s.arrays taken) ≡ length (decode b).arrays
+    part_end = part_length ∙ arrays_end
+
+    pub part_at : {k : ℕ} → k < length (take s.arrays taken) → get_or (take s.arrays taken) k 0 ≡ get_or taken k 0
+    part_at {k} h = get_or-take s.arrays taken k 0 (omega (arith, part_length))
 
   module _ {k n : ℕ} (i : n ≡ length (decode b).arrays) (h : k < n) where
     pub array_there : HasArray b k
@@ -119,10 +135,23 @@ module _ (l : List Weighted) (bits : List ℕ) (i : ℕ) where
       sum_ext (weight_at l k) _ (λ j. count * bit_of bits (weights_before l k + j)) (λ j m. rw (drawn_at k j h m) (mul_comm _ count))
       ∙ sum_mul (weight_at l k) count _ ∙ mul_comm count _)
 
--- the tests of a record
-spare_by : (d : ℕ) (bits : List ℕ) → spare_clear d bits ≡ eqb (bits_set bits d (8 * ((d + 7) / 8) - d)) 0
-spare_by d bits = sum_none (8 * bit_bytes d - d) (λ i. bit_of bits (d + i))
+-- the first n numbers of a list, added up
+-- two numbers compared either way
+pub eqb_sym : (m n : ℕ) → eqb m n ≡ eqb n m
+eqb_sym m n = go (ℕ_discrete m n)
+  where
+    go : Dec (m ≡ n) → eqb m n ≡ eqb n m
+    go (yes e) = rw e refl
+    go (no h) = ne_eqb _ _ h ∙ sym (ne_eqb _ _ (λ e. h (sym e)))
 
+sum_first : (n : ℕ) (l : List ℕ) → n ≤ length l → sum (take n l) ≡ sum_to n (λ k. get_or l k 0)
+unfolding sum_to
+sum_first zero xs h = refl
+sum_first (suc n) xs h =
+    let more : sum (take (suc n) xs) ≡ sum (take n xs) + get_or xs n 0 = rw (← add-one n) (sum_by_more (λ x. x) xs n 0 (omega arith)) in
+    omega (arith, more, sum_first n xs (omega arith))
+
+-- the tests of a record
 module _ {s : Sizes} {b bits tally : List ℕ} (f : Fitted s b bits tally) where
   sized : Sized s b
   sized = opened_sized b s f.is_open
@@ -130,8 +159,8 @@ module _ {s : Sizes} {b bits tally : List ℕ} (f : Fitted s b bits tally) where
   abbrev arrays : List Weighted
   arrays = (decode b).arrays
 
-  pub spare_asked : Span s.denominator (8 * ((s.denominator + 7) / 8) - s.denominator) bits
-  spare_asked = let l = sized_denominator sized in let r = f.bits_room in record { begins = omega arith; few = omega arith; room = omega arith }
+  pub spared : Spared s.denominator bits
+  spared = record { few = sized_denominator sized; room = f.bits_room }
 
   weights : weights_before arrays (length arrays) ≡ s.denominator
   weights =
@@ -153,22 +182,31 @@ module _ {s : Sizes} {b bits tally : List ℕ} (f : Fitted s b bits tally) where
     taken_is : (j : ℕ) → j < length arrays → get_or taken j 0 ≡ taken_of arrays bits j
     taken_is j h = ap (λ (q : List ℕ). get_or q j 0) t ∙ taken_at arrays bits j h
 
-    weight_small : (j : ℕ) → j < length arrays → weight_at arrays j ≤ 65535
-    weight_small j h = omega (arith, sum_term (length arrays) (weight_at arrays) j h, weights, sized_denominator sized)
+    taken_length : length taken ≡ 170
+    unfolding taken_numbers
+    taken_length =
+        ap length t
+        ∙ written_length (tabulate (length arrays) (taken_of arrays bits)) (replicate 170 0) (length_tabulate _ _) (omega (arith, arrays_few sized, zeros))
+        ∙ zeros
+      where
+        zeros : length (replicate {A = ℕ} 170 0) ≡ 170
+        zeros = length-replicate {A = ℕ} 170 0
 
-    pub few_taken : Few s.arrays taken
-    few_taken = record {
-      there = sized_arrays sized;
-      small = λ k h.
-          let l : k < length arrays = omega (arith, arrays_are sized) in
-          omega (arith, taken_is k l, sum_ones (weight_at arrays k) (λ j. bit_of bits (weights_before arrays k + j)) (λ j. bit_le bits _), weight_small k l);
-    }
+    pub numbers_room : s.arrays ≤ length taken
+    numbers_room = omega (arith, taken_length, sized_arrays sized)
+
+    pub numbers_part : s.arrays ≡ length (take s.arrays taken)
+    numbers_part = sym (length-take-le s.arrays taken numbers_room)
 
     -- their sum is the count of the bits
-    count_by : sum_to s.arrays (λ k. get_or taken k 0) ≡ sum_to s.denominator (bit_of bits)
+    count_by : sum (take s.arrays taken) ≡ sum_to s.denominator (bit_of bits)
     count_by =
-        ap (λ (n : ℕ). sum_to n (λ k. get_or taken k 0)) (sym (arrays_are sized))
+        sum_first s.arrays taken numbers_room
+        ∙ ap (λ (n : ℕ). sum_to n (λ k. get_or taken k 0)) (sym (arrays_are sized))
         ∙ sum_ext (length arrays) _ _ taken_is ∙ sym (in-arrays arrays (bit_of bits) (length arrays)) ∙ ap (λ (n : ℕ). sum_to n (bit_of bits)) weights
+
+    pub few_taken : sum (take s.arrays taken) < 4294967296
+    few_taken = omega (arith, count_by, sum_ones s.denominator (bit_of bits) (λ j. bit_le bits j), sized_denominator sized)
 
     sum_is : (i : ℕ) → factored (λ j. get_or taken j 0) arrays (length arrays) i ≡ taken_sum (decode b) bits i
     sum_is i =
@@ -181,67 +219,16 @@ module _ {s : Sizes} {b bits tally : List ℕ} (f : Fitted s b bits tally) where
     unfolding tally_fits
     tally_by rounds = every_ext (cell_count (decode b)) _ _ (λ i h. ap (λ (n : ℕ). eqb (get_or tally i 0) (rounds * get_or (decode b).cells i 0 + n)) (sum_is i))
 
-  -- the ways to the answer
-  module _ (n rounds : ℕ) where
-    fits_parts : fits (decode b) (record_of n rounds bits tally)
-        ≡ (spare_clear s.denominator bits && eqb n (sum_to s.denominator (bit_of bits)) && within s.denominator n rounds
-        && every (cell_count (decode b)) (λ i. eqb (get_or tally i 0) (rounds * get_or (decode b).cells i 0 + taken_sum (decode b) bits i)))
-    unfolding fits
-    fits_parts = rw (denominator_is sized)
+    -- a record fits by what the code finds
+    module _ (n rounds : ℕ) where
+      fits_parts : fits (decode b) (record_of n rounds bits tally)
+          ≡ (spare_clear s.denominator bits && eqb n (sum_to s.denominator (bit_of bits)) && within s.denominator n rounds
+          && every (cell_count (decode b)) (λ i. eqb (get_or tally i 0) (rounds * get_or (decode b).cells i 0 + taken_sum (decode b) bits i)))
+      unfolding fits
+      fits_parts = rw (denominator_is sized)
 
-    module _ (x : ℕ) (xe : x ≡ bits_set bits s.denominator (8 * ((s.denominator + 7) / 8) - s.denominator)) where
-      pub spare_set : (x ≡ 0 → ⊥) → false ≡ fits (decode b) (record_of n rounds bits tally)
-      spare_set h = sym (fits_parts ∙ rw (spare_by s.denominator bits ∙ ne_eqb _ _ (λ q. h (xe ∙ q))))
-
-      module _ (xz : x ≡ 0) {taken : List ℕ} (t : taken ≡ taken_numbers (decode b).arrays bits) (y : ℕ)
-          (ye : y ≡ sum_to s.arrays (λ k. get_or taken k 0)) where
-        spare : spare_clear s.denominator bits ≡ true
-        spare = spare_by s.denominator bits ∙ eq-eqb _ _ (sym xe ∙ xz)
-
-        pub count_off : (y ≡ n → ⊥) → false ≡ fits (decode b) (record_of n rounds bits tally)
-        count_off h = sym (fits_parts ∙ rw (spare, ne_eqb _ _ (λ q. h (ye ∙ count_by t ∙ sym q))))
-
-        module _ (yn : y ≡ n) (z : Bool) (ze : z ≡ within s.denominator n rounds) where
-          count : eqb n (sum_to s.denominator (bit_of bits)) ≡ true
-          count = eq-eqb _ _ (sym yn ∙ ye ∙ count_by t)
-
-          pub not_within : not z ≡ true → false ≡ fits (decode b) (record_of n rounds bits tally)
-          not_within h = sym (fits_parts ∙ rw (spare, count, sym ze ∙ not-true z h))
-
-          pub fits_is : not z ≡ false → (w : Bool) → w ≡ tally_fits rounds (decode b) taken tally → w ≡ fits (decode b) (record_of n rounds bits tally)
-          fits_is h w e = e ∙ tally_by t rounds ∙ sym (fits_parts ∙ rw (spare, count, sym ze ∙ not-false z h))
-
--- a loop that adds them up
-module _ {arrays k s : ℕ} {taken : List ℕ} (f : Few arrays taken) (p : Summed (λ j. get_or taken j 0) 65536 k s) where
-  module _ (h : k < arrays) where
-    pub taken_there : k < 170
-    taken_there = omega (arith, f.there)
-
-    pub taken_fits : Fits w32 (s + get_or taken k 0)
-    taken_fits = record { fits = omega (arith, p.small, f.there, f.small k h) }
-
-    pub taken_more : Summed (λ j. get_or taken j 0) 65536 (k + 1) (s + get_or taken k 0)
-    taken_more = summed_more p _ refl (omega (arith, f.small k h))
-
-pub taken_all : (taken : List ℕ) {arrays k s : ℕ} → Summed (λ j. get_or taken j 0) 65536 k s → k ≤ arrays → arrays ≤ k → s ≡ sum_to arrays (λ j. get_or taken j 0)
-taken_all taken p h l = (summed_all p h l).0
-
--- where a campaign can stand, case by case
-module _ (d n rounds : ℕ) where
-  pub many_rounds : 1000 < rounds → false ≡ within d n rounds
-  unfolding within
-  many_rounds h = sym (simp (lt-leb rounds 1000 h))
-
-  module _ (h : rounds ≤ 1000) where
-    pub none_free : d ≤ n → false ≡ within d n rounds
-    unfolding within
-    none_free l = sym (simp (le-leb rounds 1000 h, le-ltb n d l))
-
-    module _ (l : n < d) where
-      pub last_round : rounds ≡ 1000 → eqb n 0 ≡ within d n rounds
-      unfolding within
-      last_round e = sym (rw (le-leb rounds 1000 h, lt-ltb n d l, le-ltb rounds 1000 (omega arith)))
-
-      pub in_round : (rounds ≡ 1000 → ⊥) → true ≡ within d n rounds
-      unfolding within
-      in_round e = sym (rw (le-leb rounds 1000 h, lt-ltb n d l, lt-ltb rounds 1000 (omega arith)))
+      pub fits_by : fits (decode b) (record_of n rounds bits tally)
+          ≡ (spare_clear s.denominator bits && eqb (sum (take s.arrays taken)) n && within s.denominator n rounds && tally_fits rounds (decode b) taken tally)
+      fits_by =
+          let count : eqb (sum (take s.arrays taken)) n ≡ eqb n (sum_to s.denominator (bit_of bits)) = ap (λ (m : ℕ). eqb m n) count_by ∙ eqb_sym _ n in
+          fits_parts ∙ sym (rw (count, tally_by rounds) refl)

@@ -9,12 +9,12 @@ use borrow.Author.Tests.{leb-true, ltb-true, eqb-true}
 use Rattle.base.specs.Lists.{sum_to}
 use Rattle.base.proofs.Lists.{and_left, and_right, tabulate_all}
 use Rattle.weighted_arrays.specs.Plan.{Plan, cell_count}
-use Rattle.bits.specs.Bits.{bit_of, bit_bytes}
-use Rattle.records.specs.Record.{CampaignRecord, max_rounds, spare_clear, taken_sum, within, fits}
+use Rattle.bits.specs.Bits.{bit_of, bit_bytes, spare_clear}
+use Rattle.records.specs.Record.{CampaignRecord, max_rounds, taken_sum, within, fits}
 
 -- the second of two tests passes where the first does not
 other_passes : (a b : Bool) → (a || b) ≡ true → (a ≡ false) → b ≡ true
-other_passes true b h e = absurd (let z : ◌≡◌ {A = ℕ} 0 1 = cc in omega arith)
+other_passes true b h e = cc
 other_passes false b h e = h
 
 module _ (p : Plan) (s : CampaignRecord) (f : fits p s ≡ true) where

@@ -1,20 +1,22 @@
 -- Laws on what a tally has to be: the arrays times how many of their numbers are taken, and the table times the rounds. Assumes nothing.
-use mathlib.Core.Path.{◌≡◌, refl, sym, ap, ap₂, ◌∙◌}
-use mathlib.Core.Bool.{Bool, true, false}
+use mathlib.Core.Path.{◌≡◌, refl, sym, ap, ◌∙◌}
+use mathlib.Core.Bool.{Bool}
 use mathlib.Core.List.{List}
 use Prim.Native.Nat.{ℕ, ◌+◌, ◌*◌, ◌<◌, ◌≤◌}
 use native.Mathlib.Nat.{mul-le-mul, mul-le-mul_right}
-use native.Mathlib.Decide.{ℕ_discrete}
 use native.Mathlib.Omega.{arith}
 use lib.ListN.{length, get_or, take, replicate, length-replicate}
 use lib.Seq.{get_or-take, length-take-le}
 use lib.Dec.{eqb}
 use mir.Val.{Fits}
-use mir.Syntax.{w64}
-use borrow.Author.Tests.{eq-eqb, ne_eqb}
+use mir.Syntax.{w32, w64}
+use Rattle.std.specs.List.{list_all, zip}
+use Rattle.std.proofs.lemmas.List.{get_or_default}
+use Rattle.std.proofs.lemmas.Slice.Zip.{length-zip, get_or-zip}
 use Rattle.base.specs.Lists.{every}
 use Rattle.base.specs.Buffers.{written}
-use Rattle.base.proofs.Every.{Passed, passed_none, passed_more, passed_all, every_not, every_ext}
+use Rattle.base.proofs.StdLists.{all_listed}
+use Rattle.base.proofs.Every.{every_place, every_ext}
 use Rattle.base.proofs.Buffers.{written_at, written_length}
 use Rattle.form.specs.declared.Sizes.{Sizes}
 use Rattle.weighted_arrays.specs.Plan.{array_at, cell_count}
@@ -26,15 +28,7 @@ use Rattle.weighted_arrays.specs.Clauses.{max_product, Addable, Increased, facto
 use Rattle.weighted_arrays.proofs.Weighting.{sums_none, sums_addable, sums_more}
 use Rattle.reading.proofs.Scratch.{counts_read}
 use Rattle.records.specs.Clauses.{ArrayAddable, ArraysAdded, Compared, tally_met, Tallied, tally_fits}
-use Rattle.records.proofs.Fitting.{arrays_few}
-
--- two numbers compared either way
-eqb_sym : (m n : ℕ) → eqb m n ≡ eqb n m
-eqb_sym m n = go (ℕ_discrete m n)
-  where
-    go : Dec (m ≡ n) → eqb m n ≡ eqb n m
-    go (yes e) = rw e refl
-    go (no h) = ne_eqb _ _ h ∙ sym (ne_eqb _ _ (λ e. h (sym e)))
+use Rattle.records.proofs.Fitting.{arrays_few, eqb_sym}
 
 -- an array's counts, as they are read into a scratch and added to the sums
 pub scratch_asked : {s : Sizes} {b : List ℕ} {k : ℕ} {sums : List ℕ} → ArrayAddable s b k sums → HasCounts b k (replicate 144 0)
@@ -73,42 +67,52 @@ module _ {s : Sizes} {b : List ℕ} (z : Sized s b) where
     pub added_all : k ≤ n → n ≤ k → SumsTo f (decode b).arrays (cell_count (decode b)) (length (decode b).arrays) sums
     added_all h q = let e : k ≡ length (decode b).arrays = omega arith in rw e at p
 
--- the first i numbers of a tally are rounds times their cells plus their sums
+-- a number of a tally, its cell and its sum
+abbrev pub triples : List ℕ → List ℕ → List ℕ → List ((ℕ × ℕ) × ℕ)
+triples cells sums tally = zip (zip tally cells) sums
+
 abbrev test : ℕ → List ℕ → List ℕ → List ℕ → ℕ → Bool
 test rounds cells sums tally i = eqb (rounds * get_or cells i 0 + get_or sums i 0) (get_or tally i 0)
 
-pub record MetTo (rounds : ℕ) (cells sums tally : List ℕ) (i : ℕ) : Type 0 where
-  pub met : Passed (test rounds cells sums tally) i
+module _ {cells sums tally : List ℕ} (c : Compared cells sums tally) where
+  pairs_length : length (zip tally cells) ≡ length tally
+  pairs_length = length-zip tally cells ∙ omega (arith, c.few, c.cells_length)
 
-pub none_met : (rounds : ℕ) (cells sums tally : List ℕ) → MetTo rounds cells sums tally 0
-none_met rounds cells sums tally = record { met = passed_none _ }
+  triples_length : length (triples cells sums tally) ≡ length tally
+  triples_length = length-zip (zip tally cells) sums ∙ omega (arith, pairs_length, c.few, c.sums_length)
 
--- what the code adds up fits
-module _ {cells sums tally : List ℕ} {i t x : ℕ} (c : Compared cells sums tally) (h : i < length tally) (ts : t < 65536) (xs : x < 4294967296) where
+  triple_at : (k : ℕ) → k < length tally → (d : (ℕ × ℕ) × ℕ) → get_or (triples cells sums tally) k d ≡ ((get_or tally k d.0.0, get_or cells k d.0.1), get_or sums k d.1)
+  triple_at k h d =
+      get_or-zip (zip tally cells) sums k d (omega (arith, pairs_length)) (omega (arith, c.few, c.sums_length))
+      ∙ ap (λ (p : ℕ × ℕ). (p, get_or sums k d.1)) (get_or-zip tally cells k d.0 h (omega (arith, c.few, c.cells_length)))
+
+  -- what the code tests of each is the test of its place
+  pub met_is : (rounds : ℕ) → list_all (λ (x : (ℕ × ℕ) × ℕ). eqb (rounds * x.0.1 + x.1) x.0.0) (triples cells sums tally) ≡ tally_met rounds cells sums tally
+  unfolding tally_met
+  met_is rounds =
+      let met : (ℕ × ℕ) × ℕ → Bool = λ x. eqb (rounds * x.0.1 + x.1) x.0.0 in
+      all_listed met (triples cells sums tally)
+      ∙ sym (every_place met (triples cells sums tally) ((0, 0), 0))
+      ∙ ap (λ (n : ℕ). every n (λ i. met (get_or (triples cells sums tally) i ((0, 0), 0)))) triples_length
+      ∙ every_ext (length tally) _ (test rounds cells sums tally) (λ i h. ap met (triple_at i h ((0, 0), 0)))
+
+  -- and what it adds up fits
+  pub sum_small : {x y z : ℕ} (k : ℕ) → k < length (triples cells sums tally) → ◌≡◌ {A = (ℕ × ℕ) × ℕ} ((x, y), z) (get_or (triples cells sums tally) k ((x, y), z))
+      → z ≤ 170 * max_product
+  sum_small {x} {y} {z} k h e =
+      let l : k < length tally = omega (arith, triples_length) in
+      let is : z ≡ get_or sums k z = ap (λ (p : (ℕ × ℕ) × ℕ). p.1) (e ∙ triple_at k l ((x, y), z)) in
+      omega (arith, is, c.small k l, get_or_default sums k z 0 (omega (arith, c.few, c.sums_length)))
+
+module _ {t x y : ℕ} (h : t < 65536) (f : Fits w32 y) (e : x ≡ y) where
   product : t * x ≤ 65535 * 4294967295
-  product = let a : t ≤ 65535 = omega arith in let b : x ≤ 4294967295 = omega arith in mul-le-mul a b
+  product = let a : t ≤ 65535 = omega arith in let b : x ≤ 4294967295 = omega (arith, f.fits) in mul-le-mul a b
 
   pub times_fits : Fits w64 (t * x)
   times_fits = record { fits = omega (arith, product) }
 
-  pub sum_fits : Fits w64 (t * x + get_or sums i 0)
-  sum_fits = record { fits = omega (arith, product, c.small i h) }
-
--- a number that is this, and one that is not
-module _ (rounds : ℕ) (cells sums tally : List ℕ) (i : ℕ) {t x : ℕ} (te : t ≡ rounds) (xe : x ≡ get_or cells i 0) where
-  is : t * x + get_or sums i 0 ≡ rounds * get_or cells i 0 + get_or sums i 0
-  is = ap (λ (n : ℕ). n + get_or sums i 0) (ap₂ ◌*◌ te xe)
-
-  pub unmet : i < length tally → (t * x + get_or sums i 0 ≡ get_or tally i 0 → ⊥) → false ≡ tally_met rounds cells sums tally
-  unfolding tally_met
-  unmet l h = every_not (test rounds cells sums tally) (length tally) i l (ne_eqb _ _ (λ q. h (is ∙ q)))
-
-  pub met_more : MetTo rounds cells sums tally i → t * x + get_or sums i 0 ≡ get_or tally i 0 → MetTo rounds cells sums tally (i + 1)
-  met_more p h = record { met = passed_more p.met (eq-eqb _ _ (sym is ∙ h)) }
-
-pub all_met : {rounds : ℕ} {cells sums tally : List ℕ} {i : ℕ} → MetTo rounds cells sums tally i → length tally ≤ i → true ≡ tally_met rounds cells sums tally
-unfolding tally_met
-all_met p h = passed_all p.met h
+  pub sum_fits : {z : ℕ} → z ≤ 170 * max_product → Fits w64 (t * x + z)
+  sum_fits l = record { fits = omega (arith, product) }
 
 -- the table in a scratch, and the tally up to it
 module _ {s : Sizes} {b tally : List ℕ} (t : Tallied s b tally) where

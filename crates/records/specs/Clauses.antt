@@ -20,11 +20,6 @@ taken_of l bits k = bits_set bits (weights_before l k) (weight_at l k)
 unfoldable pub taken_numbers : List Weighted → List ℕ → List ℕ
 taken_numbers l bits = written (tabulate (length l) (taken_of l bits)) (replicate max_arrays 0)
 
--- the numbers taken of so many arrays, and few enough of each for their sum
-pub record Few (arrays : ℕ) (taken : List ℕ) : Type 0 where
-  pub there : arrays ≤ max_arrays
-  pub small : (k : ℕ) → k < arrays → get_or taken k 0 ≤ max_denominator
-
 -- the bits are enough for the numbers of all arrays of a plan
 pub record Numbered (s : Sizes) (b bits : List ℕ) : Type 0 where
   pub sized : Sized s b

@@ -1,8 +1,8 @@
 -- The campaign record, and when it fits a plan (specification, "Campaign record"). Assumes nothing.
-use Rattle.std.specs.Prelude.{Bool, ◌&&◌, ◌||◌, List, ℕ, ◌+◌, ◌-◌, ◌*◌, length, get_or, leb, ltb, eqb}
+use Rattle.std.specs.Prelude.{Bool, ◌&&◌, ◌||◌, List, ℕ, ◌+◌, ◌*◌, length, get_or, leb, ltb, eqb}
 use Rattle.base.specs.Lists.{sum_to, every}
 use Rattle.weighted_arrays.specs.Plan.{Plan, cell_count, array_for}
-use Rattle.bits.specs.Bits.{bit_of, bit_bytes}
+use Rattle.bits.specs.Bits.{bit_of, bit_bytes, spare_clear}
 
 -- how many numbers are taken in this round, how many rounds are completed, a bit for each number, and a sum for each cell
 pub record CampaignRecord : Type 0 where
@@ -18,10 +18,6 @@ record_of taken rounds bits tally = record { taken = taken; rounds = rounds; bit
 -- a campaign has at most so many rounds
 abbrev pub max_rounds : ℕ
 max_rounds = 1000
-
--- the bits of the last byte that no number has are 0
-abbrev pub spare_clear : ℕ → List ℕ → Bool
-spare_clear denominator bits = every (8 * bit_bytes denominator - denominator) (λ i. eqb (bit_of bits (denominator + i)) 0)
 
 -- what the arrays of the numbers whose bits are set add up to at one cell
 abbrev pub taken_sum : Plan → List ℕ → ℕ → ℕ

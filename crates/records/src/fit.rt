@@ -1,13 +1,12 @@
 // Whether a campaign record fits a plan: refusal 9.
-ghost use Rattle.std.specs.Prelude.{◌≡◌, get_or};
-ghost use Rattle.base.specs.Lists.{sum_to};
+ghost use Rattle.std.specs.Prelude.{◌≡◌, ◌^◌, ◌<◌, sum};
 ghost use Rattle.form.specs.Form.{decode};
 ghost use Rattle.records.specs.Record.{record_of, within, fits};
-ghost use Rattle.records.specs.Clauses.{Numbered, taken_numbers, Few, Fitted};
+ghost use Rattle.records.specs.Clauses.{Numbered, taken_numbers, Fitted};
 
-use crate::{MAX_ROUNDS, Record};
 use crate::tally::tally_fits;
-use bits::bits_set;
+use crate::{MAX_ROUNDS, Record};
+use bits::{bits_set, spare_clear};
 use form::Sizes;
 use reading::weight;
 
@@ -21,37 +20,25 @@ fn taken_numbers(plan: &[u8], s: Sizes, bits: &[u8]) -> [u32; 170]
     for k in 0..s.arrays {
         let w = weight(plan, k) as usize;
         taken[k] = bits_set(bits, at, w);
-        at = at + w;
+        at += w;
     }
     taken
 }
 
 // How many numbers are taken, array by array added up.
-fn all_taken(taken: &[u32; 170], arrays: usize) -> u32
-    requires { Few arrays taken.now }
-    ensures { result ≡ sum_to arrays (λ k. get_or taken.now k 0) }
+fn all_taken(taken: &[u32]) -> u32
+    requires { sum taken.now < 2 ^ 32 }
+    ensures { result ≡ sum taken.now }
 {
-    let mut sum: u32 = 0;
-    for k in 0..arrays {
-        sum = sum + taken[k];
-    }
-    sum
+    taken.iter().sum()
 }
 
 // Whether a campaign can stand at this count and these rounds.
+#[tactic(auto, unfolding(crate::specs::Record::within))]
 fn within(denominator: u32, taken: u32, rounds: u16) -> bool
     ensures { result ≡ within denominator taken rounds }
 {
-    if MAX_ROUNDS < rounds {
-        return false;
-    }
-    if denominator <= taken {
-        return false;
-    }
-    if rounds == MAX_ROUNDS {
-        return taken == 0;
-    }
-    true
+    rounds <= MAX_ROUNDS && taken < denominator && (rounds < MAX_ROUNDS || taken == 0)
 }
 
 // Whether the record fits the opened plan. The time is that of the D bits and of the counts of the K arrays.
@@ -59,17 +46,9 @@ pub fn fits(plan: &[u8], s: Sizes, record: Record, bits: &[u8], tally: &[u64]) -
     requires { Fitted s plan.now bits.now tally.now }
     ensures { result ≡ fits (decode plan.now) (record_of «record».taken «record».rounds bits.now tally.now) }
 {
-    let denominator = s.denominator as usize;
-    let spare = 8 * ((denominator + 7) / 8) - denominator;
-    if bits_set(bits, denominator, spare) != 0 {
-        return false;
-    }
     let numbers = taken_numbers(plan, s, bits);
-    if all_taken(&numbers, s.arrays) != record.taken {
-        return false;
-    }
-    if !within(s.denominator, record.taken, record.rounds) {
-        return false;
-    }
-    tally_fits(plan, s, record.rounds, &numbers, tally)
+    spare_clear(bits, s.denominator as usize)
+        && all_taken(&numbers[..s.arrays]) == record.taken
+        && within(s.denominator, record.taken, record.rounds)
+        && tally_fits(plan, s, record.rounds, &numbers, tally)
 }

@@ -27,8 +27,8 @@ fn tally_of(plan: &[u8], s: Sizes, taken: &[u32; 170]) -> [u64; 144]
     ensures { ArraysAdded plan.now taken.now result }
 {
     let mut sums = [0u64; 144];
-    for k in 0..s.arrays {
-        add_array(plan, s, k, taken[k], &mut sums);
+    for (k, factor) in taken[..s.arrays].iter().enumerate() {
+        add_array(plan, s, k, *factor, &mut sums);
     }
     sums
 }
@@ -39,14 +39,11 @@ fn tally_met(rounds: u16, cells: &[u32; 144], sums: &[u64; 144], tally: &[u64]) 
     ensures { result ≡ tally_met rounds cells.now sums.now tally.now }
 {
     let times = u64::from(rounds);
-    let mut i = 0;
-    while i < tally.len() {
-        if times * u64::from(cells[i]) + sums[i] != tally[i] {
-            return false;
-        }
-        i += 1;
-    }
-    true
+    tally
+        .iter()
+        .zip(cells)
+        .zip(sums)
+        .all(|((n, cell), sum)| times * u64::from(*cell) + *sum == *n)
 }
 
 // Whether the tally is rounds times the table plus the arrays of the numbers taken.
