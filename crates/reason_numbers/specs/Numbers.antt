@@ -8,7 +8,7 @@ use Rattle.reasons.specs.declared.Entry.{Entry}
 use Rattle.reasons.specs.declared.Entry.TheVariants.{Cell, RowTotal, ColumnTotal, GrandTotal}
 use Rattle.reasons.specs.declared.Direction.{Direction}
 use Rattle.reasons.specs.declared.Direction.TheVariants.{Down, Up, AllWhole}
-use Rattle.reasons.specs.declared.Reason.{Reason}
+use Rattle.reasons.specs.declared.Explanation.{Explanation}
 use Rattle.reasons.specs.Call.{reason_tests}
 
 -- the numbers of an entry: its kind (1 cell, 2 row total, 3 column total, 4 grand total), its row and its column, 0 where the kind has none
@@ -25,12 +25,12 @@ direction_number Down = 1
 direction_number Up = 2
 
 -- the numbers of a reason: those of its entry, and of the direction; none of a refusal
-abbrev pub reason_numbers : Result Reason Refusal → List ℕ
+abbrev pub reason_numbers : Result Explanation Refusal → List ℕ
 reason_numbers (Ok x) = entry_numbers x.entry ++ (direction_number x.direction ∷ [])
 reason_numbers (Err x) = []
 
 -- the number that each reply stands for: 0 for a reason, else the refusal's
-abbrev pub reply_number : Result Reason Refusal → ℕ
+abbrev pub reply_number : Result Explanation Refusal → ℕ
 reply_number (Ok x) = 0
 reply_number (Err x) = number_of x
 

@@ -10,19 +10,18 @@ use Rattle.table.specs.declared.Table.{Table}
 use Rattle.table.specs.Clauses.{IsTable, check_of}
 use Rattle.table.specs.Check.{table_tests, table_refusal}
 use Rattle.table.proofs.Tables.{taken, not_taken}
-use Rattle.reasons.specs.declared.Reply.{Reply}
-use Rattle.reasons.specs.declared.Reply.TheVariants.{Refused}
+use Rattle.reasons.specs.declared.Explanation.{Explanation}
 use Rattle.reasons.specs.Reason.{reason_of}
 use Rattle.reasons.specs.Call.{round_at, reason_refusal, reason_answer}
 
 module _ (r c d : ℕ) (g : List ℕ) {k : Result Table Refusal} (e : k ≡ check_of r c d g) where
-  pub table_refused : (array : ℕ) {x : Refusal} → k ≡ Err x → Refused x ≡ reason_answer r c d g array
+  pub table_refused : (array : ℕ) {x : Refusal} → k ≡ Err x → Err x ≡ reason_answer r c d g array
   unfolding reason_answer reason_refusal table_refusal
-  table_refused array {x} h = sym (ap (refused_or Refused (reason_of r c (round_at r c d g array))) (due_first (table_tests r c d g) _ x (not_taken r c d g e x h)))
+  table_refused array {x} h = sym (ap (refused_or Err (Ok (reason_of r c (round_at r c d g array)))) (due_first (table_tests r c d g) _ x (not_taken r c d g e x h)))
 
   module _ {t : Table} (h : k ≡ Ok t) where
     pub is_table : IsTable t.rows t.columns t.denominator g
     is_table = let u = taken r c d g e t h in rw u.sizes u.table
 
-    pub asked : (array : ℕ) {x : Reply} → x ≡ reason_answer t.rows t.columns t.denominator g array → x ≡ reason_answer r c d g array
+    pub asked : (array : ℕ) {x : Result Explanation Refusal} → x ≡ reason_answer t.rows t.columns t.denominator g array → x ≡ reason_answer r c d g array
     asked array f = rw (taken r c d g e t h).sizes at f

@@ -32,8 +32,8 @@ use Rattle.planning.proofs.OneRound.{entry_rounds, attains, weight_most, weight_
 use Rattle.planning.proofs.Progressing.{Begins, begins, round_is, more_rounds, all_rounds, progress_step, next_weight}
 use Rattle.reasons.specs.declared.Entry.{Entry}
 use Rattle.reasons.specs.declared.Entry.TheVariants.{Cell, GrandTotal}
-use Rattle.reasons.specs.declared.Reply.TheVariants.{Down, Up, AllWhole}
-use Rattle.reasons.specs.Reason.{named_entries, places_of, expected_in, count_in, sets, set_by, reason_of}
+use Rattle.reasons.specs.declared.Direction.TheVariants.{Down, Up, AllWhole}
+use Rattle.reasons.specs.Reason.{named_entries, places_of, expected_in, count_in, sets, set_by, reason, reason_of}
 use Rattle.reasons.specs.Call.{round_at, reason_refusal}
 use Rattle.reasons.specs.Explained.{Explained}
 use Rattle.reasons.proofs.Naming.{names_places}
@@ -67,22 +67,22 @@ module _ {r c : ℕ} {g : List ℕ} (s : Shape r c g) (w : ℕ) (wp : 0 < w) whe
       subst (Member (places_of r c (set_by r c x))) (names_places r c) (Memᴰ.map (places_of r c) m)
 
   -- the three cases of a reason
-  pub says_down : (e : Entry) → reason_of r c x ≡ Down e → count_in r c x e ≡ down w (expected_in r c x e)
+  pub says_down : (e : Entry) → reason_of r c x ≡ reason e Down → count_in r c x e ≡ down w (expected_in r c x e)
   says_down e h =
       let t = told r c x h in
-      subst (λ (y : Entry). count_in r c x y ≡ down w (expected_in r c x y)) t.1 (eqb-true _ _ t.0)
+      subst (λ (y : Entry). count_in r c x y ≡ down w (expected_in r c x y)) t.0 (eqb-true _ _ t.1)
 
-  pub says_up : (e : Entry) → reason_of r c x ≡ Up e → count_in r c x e ≡ down w (expected_in r c x e) + 1
+  pub says_up : (e : Entry) → reason_of r c x ≡ reason e Up → count_in r c x e ≡ down w (expected_in r c x e) + 1
   says_up e h =
       let t = told r c x h in
-      let other : count_in r c x (set_by r c x) ≡ down w (expected_in r c x (set_by r c x)) → ⊥ = eqb-false _ _ t.0 in
+      let other : count_in r c x (set_by r c x) ≡ down w (expected_in r c x (set_by r c x)) → ⊥ = eqb-false _ _ t.1 in
       let rounds = entry_rounds s w wp _ rounding setter_in in
       let next : count_in r c x (set_by r c x) ≡ down w (expected_in r c x (set_by r c x)) + 1 =
       omega (arith, other, rounds_low w _ _ rounds, rounds_high w _ _ rounds, gap_le w (expected_in r c x (set_by r c x))) in
-      subst (λ (y : Entry). count_in r c x y ≡ down w (expected_in r c x y) + 1) t.1 next
+      subst (λ (y : Entry). count_in r c x y ≡ down w (expected_in r c x y) + 1) t.0 next
 
-  pub says_whole : (e : Entry) → reason_of r c x ≡ AllWhole e → weight_of r c w g (first_rounding r c w g) ≡ w
-  says_whole e h = whole_all s w wp (told r c x h)
+  pub says_whole : (e : Entry) → reason_of r c x ≡ reason e AllWhole → weight_of r c w g (first_rounding r c w g) ≡ w
+  says_whole e h = whole_all s w wp (told r c x h).1
 
   -- where the weight is all that is left, the first cell has it as its limit
   module _ (all : weight_of r c w g (first_rounding r c w g) ≡ w) where
@@ -104,9 +104,9 @@ module _ {r c : ℕ} {g : List ℕ} (s : Shape r c g) (w : ℕ) (wp : 0 < w) whe
         ∙ first_at (sets r c x) (r * c) (λ k. Cell (k / c + 1) (k % c + 1)) _ 0 some_cells (λ k h. absurd (omega arith)) first_limit
         ∙ rw (zero-div c, zero-mod c) refl
 
-    pub whole_said : reason_of r c x ≡ AllWhole (Cell 1 1)
+    pub whole_said : reason_of r c x ≡ reason (Cell 1 1) AllWhole
     unfolding reason_of
-    whole_said = rw (all_whole_lem s w wp all) (ap AllWhole first_cell)
+    whole_said = rw (all_whole_lem s w wp all) (ap (λ (e : Entry). reason e AllWhole) first_cell)
 
 -- every round of the plan
 module _ {r c d : ℕ} {g : List ℕ} (t : IsTable r c d g) (k : ℕ) (some : 1 ≤ k) (most : k ≤ length (plan_rounds r c d g)) where
@@ -140,9 +140,9 @@ module _ {r c d : ℕ} {g : List ℕ} (t : IsTable r c d g) (k : ℕ) (some : 1 
   explained = record {
     array = sym (get_or-map (λ x. x.array) (plan_rounds r c d g) (k - 1) _);
     entry = subst (λ (x : Round). FirstOf (sets r c x) (named_entries r c) (set_by r c x)) (sym round) (first_entry b.progress.shape b.weight b.some);
-    rounded_down_is = subst (λ (x : Round). (e : Entry) → reason_of r c x ≡ Down e → count_in r c x e ≡ down x.left (expected_in r c x e)) (sym round)
+    rounded_down_is = subst (λ (x : Round). (e : Entry) → reason_of r c x ≡ reason e Down → count_in r c x e ≡ down x.left (expected_in r c x e)) (sym round)
         (says_down b.progress.shape b.weight b.some);
-    rounded_up = subst (λ (x : Round). (e : Entry) → reason_of r c x ≡ Up e → count_in r c x e ≡ down x.left (expected_in r c x e) + 1) (sym round)
+    rounded_up = subst (λ (x : Round). (e : Entry) → reason_of r c x ≡ reason e Up → count_in r c x e ≡ down x.left (expected_in r c x e) + 1) (sym round)
         (says_up b.progress.shape b.weight b.some);
     last_whole = λ e. ap (reason_of r c) round ∙ whole_said b.progress.shape b.weight b.some (last_takes e);
     whole_last = λ e h. takes_last (says_whole b.progress.shape b.weight b.some e (sym (ap (reason_of r c) round) ∙ h));

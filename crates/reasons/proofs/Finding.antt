@@ -1,14 +1,12 @@
 -- What the loop over the rounds up to an array's own keeps, and what it answers. Assumes nothing.
-use Rattle.std.specs.Prelude.{Some, None}
-use mathlib.Core.Path.{◌≡◌, sym, ap, ◌∙◌}
-use mathlib.Core.Bool.{true, false, not, false≢true}
+use Rattle.std.specs.Prelude.{Some, None, Ok, Err}
+use mathlib.Core.Path.{◌≡◌, refl, sym, ap, ◌∙◌}
+use mathlib.Core.Bool.{false, not}
 use mathlib.Core.List.{List, [], ◌∷◌}
 use Prim.Native.Nat.{ℕ, ◌+◌, ◌-◌, ◌<◌, ◌≤◌}
 use native.Mathlib.Decide.{dec_lt}
 use native.Mathlib.Omega.{arith}
 use lib.ListN.{length, get_or, length-map}
-use mir.Val.{Fits}
-use mir.Syntax.{w32}
 use Rattle.refusals.specs.declared.Refusal.TheVariants.{Array}
 use Rattle.refusals.specs.Due.{refuse, due, refused_or}
 use Rattle.refusals.proofs.Dues.{due_second}
@@ -20,9 +18,8 @@ use Rattle.grid.specs.Clauses.{grid_of}
 use Rattle.planning.specs.Rounds.{Round, round_on, plan_rounds, plan_of}
 use Rattle.planning.specs.Clauses.{RoundReady, RoundDone, Reached}
 use Rattle.planning.proofs.Progressing.{round_is, more_rounds, all_rounds}
-use Rattle.planning.proofs.Reaching.{reached_start, reached_step, entries_left, weight_left, few_before, weight_most as reached-most, less_left as reached-less}
-use Rattle.reasons.specs.declared.Reply.{Reply}
-use Rattle.reasons.specs.declared.Reply.TheVariants.{Refused}
+use Rattle.planning.proofs.Reaching.{reached_start, reached_step, entries_left, weight_left, weight_most as reached-most}
+use Rattle.reasons.specs.declared.Explanation.{Explanation}
 use Rattle.reasons.specs.Reason.{reason_of}
 use Rattle.reasons.specs.Call.{round_at, reason_refusal, reason_answer}
 use Rattle.reasons.specs.Clauses.{Remains}
@@ -58,22 +55,20 @@ module _ {r c d : ℕ} {g : List ℕ} (t : IsTable r c d g) (k : ℕ) where
       go (no a) (yes b) = absurd (refused (sym (too_large (length (plan_rounds r c d g)) k b)))
       go (no a) (no b) = (omega arith, omega arith)
 
--- where the loop stands: k rounds are done, and none of them was that of the array
+-- where the loop stands: the rounds before round k are done, and none of them was that of the array
 pub record Passed (r c d : ℕ) (g : List ℕ) (array w k : ℕ) (e : List ℕ) : Type 0 where
-  pub reached : Reached r c d g w k e
-  pub not_yet : up_to k array ≡ false
+  pub done : ℕ
+  pub next : done + 1 ≡ k
+  pub reached : Reached r c d g w done e
+  pub not_yet : 0 < array → k ≤ array
 
-pub passed_start : {r c d : ℕ} {g : List ℕ} (array : ℕ) {e : List ℕ} → IsTable r c d g → e ≡ grid_of r c g → Passed r c d g array d 0 e
-passed_start array {e} t is = record { reached = reached_start e t is; not_yet = go (dec_lt array 1) }
-  where
-    go : Dec (array < 1) → up_to 0 array ≡ false
-    go (yes h) = sym (too_small 0 array h)
-    go (no h) = sym (too_large 0 array (omega arith))
+pub passed_start : {r c d : ℕ} {g : List ℕ} (array : ℕ) {e : List ℕ} → IsTable r c d g → e ≡ grid_of r c g → Passed r c d g array d 1 e
+passed_start array {e} t is = record { done = 0; next = refl; reached = reached_start e t is; not_yet = λ h. omega arith }
 
 module _ {r c d : ℕ} {g : List ℕ} {array w k : ℕ} {e : List ℕ} (o : Passed r c d g array w k e) where
-  module _ (wp : 0 < w) where
-    pub round_counted : Fits w32 (k + 1)
-    round_counted = record { fits = omega (arith, few_before o.reached wp) }
+  module _ (n : w ≡ 0 → ⊥) where
+    wp : 0 < w
+    wp = omega arith
 
     pub remains : Remains r c w e
     remains = record {
@@ -81,43 +76,45 @@ module _ {r c d : ℕ} {g : List ℕ} {array w k : ℕ} {e : List ℕ} (o : Pass
       shape = o.reached.progress.shape;
       grid = o.reached.grid;
       small = (entries_left o.reached).small;
-      Some = wp;
+      some = wp;
       most = weight_left o.reached;
     }
 
     pub round_ready : (n : List ℕ) → length n ≡ 169 → RoundReady w e n
-    round_ready n h = record { grid = entries_left o.reached; Some = wp; small = weight_left o.reached; len = h }
+    round_ready n h = record { grid = entries_left o.reached; some = wp; small = weight_left o.reached; len = h }
+
+    -- the array's own round
+    pub own_round : k ≡ array → {x : Explanation} → ((y : List ℕ) → Shape r c y → e ≡ grid_of r c y → x ≡ reason_of r c (round_on r c w y))
+        → Ok x ≡ reason_answer r c d g array
+    unfolding reason_answer
+    own_round q {x} h =
+        let p = o.reached.progress in
+        let z : Round = record { left = 0; table = []; array = record { weight = 0; counts = [] } } in
+        let at : array - 1 ≡ o.done = omega (arith, o.next) in
+        let round : round_at r c d g array ≡ round_on r c w o.reached.rest = ap (λ (i : ℕ). get_or (plan_rounds r c d g) i z) at ∙ round_is p wp z in
+        let free : reason_refusal r c d g array ≡ None = has_array o.reached.table array (omega (arith, o.next)) (omega (arith, o.next, more_rounds p wp)) in
+        ap Ok (h o.reached.rest p.shape o.reached.grid ∙ sym (ap (reason_of r c) round))
+        ∙ sym (ap (refused_or Err (Ok (reason_of r c (round_at r c d g array)))) free)
 
     module _ {a : List ℕ} {x : ℕ} {e' : List ℕ} (u : RoundDone w e a x e') where
       pub weight_most : x ≤ w
       weight_most = reached-most o.reached wp u
 
-      pub less_left : w - x < w
-      less_left = reached-less o.reached wp u
+      pub passed_step : (k ≡ array → ⊥) → k ≤ array → Passed r c d g array (w - x) (k + 1) e'
+      passed_step n h = record { done = o.done + 1; next = omega (arith, o.next); reached = reached_step o.reached wp u; not_yet = λ p. omega arith }
 
-    -- the array's own round
-    pub own_round : k + 1 ≡ array → {x : Reply} → ((y : List ℕ) → Shape r c y → e ≡ grid_of r c y → x ≡ reason_of r c (round_on r c w y)) → x ≡ reason_answer r c d g array
-    unfolding reason_answer
-    own_round q {x} h =
-        let p = o.reached.progress in
-        let z : Round = record { left = 0; table = []; array = record { weight = 0; counts = [] } } in
-        let at : array - 1 ≡ k = omega arith in
-        let round : round_at r c d g array ≡ round_on r c w o.reached.rest = ap (λ (i : ℕ). get_or (plan_rounds r c d g) i z) at ∙ round_is p wp z in
-        let free : reason_refusal r c d g array ≡ None = has_array o.reached.table array (omega arith) (omega (arith, more_rounds p wp)) in
-        h o.reached.rest p.shape o.reached.grid
-        ∙ sym (ap (refused_or Refused (reason_of r c (round_at r c d g array))) free ∙ ap (reason_of r c) round)
-
-    pub passed_step : (k + 1 ≡ array → ⊥) → {a : List ℕ} {x : ℕ} {e' : List ℕ} → RoundDone w e a x e' → Passed r c d g array (w - x) (k + 1) e'
-    passed_step n u = record { reached = reached_step o.reached wp u; not_yet = go (dec_lt array 1) (dec_lt (k + 1) array) }
-      where
-        go : Dec (array < 1) → Dec (k + 1 < array) → up_to (k + 1) array ≡ false
-        go (yes h) l = sym (too_small (k + 1) array h)
-        go (no h) (yes l) = sym (too_large (k + 1) array l)
-        go (no h) (no l) = absurd (let z : false ≡ true = sym o.not_yet ∙ inside k array (omega arith) (omega (arith, n)) in false≢true z)
-
-  pub no_round : w ≤ 0 → Refused Array ≡ reason_answer r c d g array
+  refused : up_to (length (plan_rounds r c d g)) array ≡ false → Err Array ≡ reason_answer r c d g array
   unfolding reason_answer
-  no_round z =
-      let all : length (plan_rounds r c d g) ≡ k = all_rounds (omega arith) o.reached.progress in
-      let due : reason_refusal r c d g array ≡ Some Array = no_array o.reached.table array (ap (λ (n : ℕ). up_to n array) all ∙ o.not_yet) in
-      sym (ap (refused_or Refused (reason_of r c (round_at r c d g array))) due)
+  refused h = sym (ap (refused_or Err (Ok (reason_of r c (round_at r c d g array)))) (no_array o.reached.table array h))
+
+  -- no weight is left, and the array's own round is still to come
+  pub rounds_over : w ≡ 0 → k ≤ array → Err Array ≡ reason_answer r c d g array
+  rounds_over z h = refused (sym (too_large _ array (omega (arith, o.next, all_rounds z o.reached.progress))))
+
+  -- there is no array 0
+  pub none_asked : array < k → Err Array ≡ reason_answer r c d g array
+  none_asked h = refused (sym (too_small _ array (go (dec_lt 0 array))))
+    where
+      go : Dec (0 < array) → array < 1
+      go (yes p) = absurd (omega (arith, o.not_yet p))
+      go (no p) = omega arith

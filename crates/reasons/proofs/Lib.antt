@@ -1,6 +1,5 @@
 pub mod Naming
 pub mod Wholes
-pub mod Directions
 pub mod Telling
 pub mod Setting
 pub mod Finding

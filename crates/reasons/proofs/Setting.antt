@@ -3,7 +3,7 @@ use mathlib.Core.Path.{◌≡◌, refl, sym, ap, ap₂, subst, ◌∙◌}
 use mathlib.Core.List.{List}
 use Prim.Native.Nat.{ℕ, ◌*◌, ◌<◌}
 use native.Mathlib.Omega.{arith}
-use lib.ListN.{length, get_or}
+use lib.ListN.{get_or}
 use lib.Dec.{eqb}
 use mir.Val.{Fits}
 use mir.Syntax.{w64}
@@ -11,17 +11,17 @@ use Rattle.base.specs.Search.{first_that}
 use Rattle.base.proofs.Listing.{listed_at}
 use Rattle.base.proofs.Searches.{first_keeps, first_same, first_map}
 use Rattle.table.specs.Table.{total}
-use Rattle.table.specs.Clauses.{Dividable, Shape}
+use Rattle.table.specs.Clauses.{Shape}
 use Rattle.grid.specs.Clauses.{grid_at, grid_of, grid_order}
 use Rattle.grid.proofs.GridPlaces.{grid_entry}
 use Rattle.first_rounding.specs.First.{first_rounding}
 use Rattle.planning.specs.Rounds.{limit_of, round_on}
-use Rattle.planning.specs.Clauses.{limit_at, NextReady, NextArray}
+use Rattle.planning.specs.Clauses.{limit_at, NextArray}
 use Rattle.reasons.specs.declared.Entry.{Entry}
 use Rattle.reasons.specs.declared.Entry.TheVariants.{GrandTotal}
-use Rattle.reasons.specs.declared.Reply.{Reply}
-use Rattle.reasons.specs.Reason.{expected_in, count_in, sets, set_by, reason_of}
-use Rattle.limit_search.specs.Clauses.{holds, Sizes}
+use Rattle.reasons.specs.declared.Direction.{Direction}
+use Rattle.reasons.specs.Reason.{expected_in, count_in, sets, set_by, reason, reason_of}
+use Rattle.limit_search.specs.Clauses.{holds}
 use Rattle.reasons.specs.Clauses.{entry_at, directed, Remains}
 use Rattle.reasons.proofs.Naming.{Stands, stands_grand, order_stands, order_names}
 use Rattle.reasons.proofs.Wholes.{all_whole_is}
@@ -56,7 +56,7 @@ module _ {r c w : ℕ} {e n l : List ℕ} {x : ℕ} (o : NextArray w e n l x) (w
       ∙ ap entry_at (first_same _ (holds l x) (grid_order r c) 168 (λ k m. sets_is (order_stands s k m)))
 
   -- the reason, by what stands at the place
-  pub reason_is : {k : ℕ} → k ≡ first_that (holds l x) (grid_order r c) 168 → directed w x (get_or e k 0) (get_or n k 0) (entry_at k) ≡ reason_of r c (round_on r c w g)
+  pub reason_is : {k : ℕ} → k ≡ first_that (holds l x) (grid_order r c) 168 → reason (entry_at k) (directed w x (get_or e k 0) (get_or n k 0)) ≡ reason_of r c (round_on r c w g)
   unfolding reason_of
   reason_is {k} f =
       let t : Stands r c k = subst (Stands r c) (sym f) (found_stands s l x) in
@@ -64,26 +64,11 @@ module _ {r c w : ℕ} {e n l : List ℕ} {x : ℕ} (o : NextArray w e n l x) (w
       rw (named, all_whole_is s w wp, entry_is t, count_is t, o.weight r c g s is) refl
 
   pub reason_told : {k : ℕ} → k ≡ first_that (holds l x) (grid_order r c) 168 → {named : Entry} → named ≡ entry_at k
-      → {q : Reply} → q ≡ directed w x (get_or e k 0) (get_or n k 0) named → q ≡ reason_of r c (round_on r c w g)
-  reason_told {k} f i h = h ∙ ap (directed w x (get_or e k 0) (get_or n k 0)) i ∙ reason_is f
+      → {way : Direction} → way ≡ directed w x (get_or e k 0) (get_or n k 0) → reason named way ≡ reason_of r c (round_on r c w g)
+  reason_told {k} f i h = ap₂ reason i h ∙ reason_is f
 
 -- the search on a remaining table
 module _ {r c w : ℕ} {e : List ℕ} (m : Remains r c w e) where
-  pub array_ready : (n l : List ℕ) → length n ≡ 169 → length l ≡ 169 → NextReady w e n l
-  array_ready n l a b = record {
-    grid = record { rows = r; columns = c; cells = m.table; shape = m.shape; is = m.grid; small = m.small };
-    some = m.some;
-    small = m.most;
-    counts_room = a;
-    limits_room = b;
-  }
-
-  pub entry_dividable : (k : ℕ) → Dividable w (get_or e k 0)
-  entry_dividable k = record { some = m.some; small = omega (arith, m.small k) }
-
-  pub sizes_ready : Sizes r c
-  sizes_ready = record { rows = m.shape.rows; columns = m.shape.columns }
-
   module _ (l : List ℕ) (x : ℕ) {k : ℕ} (f : k ≡ first_that (holds l x) (grid_order r c) 168) where
     pub place_small : k < 169
     place_small = omega (arith, f, (found_stands m.shape l x).small)

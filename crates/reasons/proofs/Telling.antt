@@ -5,25 +5,28 @@ use Prim.Native.Nat.{ℕ}
 use lib.Dec.{eqb}
 use Rattle.table.specs.Whole.{down}
 use Rattle.planning.specs.Rounds.{Round}
-use Rattle.reasons.specs.declared.Entry.{Entry}
-use Rattle.reasons.specs.declared.Reply.{Reply}
-use Rattle.reasons.specs.declared.Reply.TheVariants.{Down, Up, AllWhole, Refused}
+use Rattle.reasons.specs.declared.Explanation.{Explanation}
+use Rattle.reasons.specs.declared.Direction.{Direction}
+use Rattle.reasons.specs.declared.Direction.TheVariants.{Down, Up, AllWhole}
 use Rattle.reasons.specs.Reason.{expected_in, count_in, set_by, all_whole, reason_of}
 
--- of an entry, with whether all are whole and whether it was rounded down
-abbrev pub Says : Entry → Bool → Bool → Reply → Type 0
-Says e a b (AllWhole f) = a ≡ true
-Says e a b (Down f) = (b ≡ true) × (e ≡ f)
-Says e a b (Up f) = (b ≡ false) × (e ≡ f)
-Says e a b (Refused x) = ⊥
+-- a direction, with whether all are whole and whether the entry was rounded down
+abbrev pub Says : Bool → Bool → Direction → Type 0
+Says a b AllWhole = a ≡ true
+Says a b Down = b ≡ true
+Says a b Up = b ≡ false
 
-says : (e : Entry) (a b : Bool) {x : Reply} → cond a (AllWhole e) (cond b (Down e) (Up e)) ≡ x → Says e a b x
-says e true b h = subst (Says e true b) h refl
-says e false true h = subst (Says e false true) h (refl, refl)
-says e false false h = subst (Says e false false) h (refl, refl)
+says : (a b : Bool) → Says a b (cond a AllWhole (cond b Down Up))
+says true b = refl
+says false true = refl
+says false false = refl
 
 -- of a round
-pub told : (r c : ℕ) (x : Round) {y : Reply} → reason_of r c x ≡ y
-    → Says (set_by r c x) (all_whole r c x) (eqb (count_in r c x (set_by r c x)) (down x.left (expected_in r c x (set_by r c x)))) y
+pub told : (r c : ℕ) (x : Round) {y : Explanation} → reason_of r c x ≡ y
+    → (set_by r c x ≡ y.entry)
+    × Says (all_whole r c x) (eqb (count_in r c x (set_by r c x)) (down x.left (expected_in r c x (set_by r c x)))) y.direction
 unfolding reason_of
-told r c x h = says (set_by r c x) (all_whole r c x) _ h
+told r c x h =
+    let P : Explanation → Type 0 = λ y. (set_by r c x ≡ y.entry)
+    × Says (all_whole r c x) (eqb (count_in r c x (set_by r c x)) (down x.left (expected_in r c x (set_by r c x)))) y.direction in
+    subst P h (refl, says _ _)

@@ -5,7 +5,7 @@ use Rattle.refusals.specs.declared.Refusal.TheVariants.{Array}
 use Rattle.refusals.specs.Due.{Test, refuse, due, refused_or}
 use Rattle.table.specs.Check.{up_to, table_tests}
 use Rattle.planning.specs.Rounds.{Round, plan_rounds, plan_of}
-use Rattle.reasons.specs.declared.Reason.{Reason}
+use Rattle.reasons.specs.declared.Explanation.{Explanation}
 use Rattle.reasons.specs.Reason.{reason_of}
 
 -- round k of a table's plan, counted from 1, and where there is none an empty one
@@ -20,5 +20,5 @@ unfoldable pub reason_refusal : ℕ → ℕ → ℕ → List ℕ → ℕ → Opt
 reason_refusal r c d g k = due (reason_tests r c d g k)
 
 -- the answer: the reason of round k, or what is due
-unfoldable pub reason_answer : ℕ → ℕ → ℕ → List ℕ → ℕ → Result Reason Refusal
+unfoldable pub reason_answer : ℕ → ℕ → ℕ → List ℕ → ℕ → Result Explanation Refusal
 reason_answer r c d g k = refused_or Err (Ok (reason_of r c (round_at r c d g k))) (reason_refusal r c d g k)

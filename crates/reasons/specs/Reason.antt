@@ -9,7 +9,7 @@ use Rattle.reasons.specs.declared.Entry.{Entry}
 use Rattle.reasons.specs.declared.Entry.TheVariants.{Cell, RowTotal, ColumnTotal, GrandTotal}
 use Rattle.reasons.specs.declared.Direction.{Direction}
 use Rattle.reasons.specs.declared.Direction.TheVariants.{Down, Up, AllWhole}
-use Rattle.reasons.specs.declared.Reason.{Reason}
+use Rattle.reasons.specs.declared.Explanation.{Explanation}
 
 -- the entries by name, in their order: cells row by row, row totals, column totals, grand total; rows and columns are counted from 1
 unfoldable pub named_entries : ℕ → ℕ → List Entry
@@ -44,11 +44,11 @@ unfoldable pub all_whole : ℕ → ℕ → Round → Bool
 all_whole r c x = all (λ s. whole x.left (total x.table s)) (entry_places r c)
 
 -- a reason: an entry, with the way it was rounded
-abbrev pub reason : Entry → Direction → Reason
+abbrev pub reason : Entry → Direction → Explanation
 reason e way = record { entry = e; direction = way }
 
 -- the reason of a round: the entry that set the weight, with whether it was rounded down or up, or that all are whole
-unfoldable pub reason_of : ℕ → ℕ → Round → Reason
+unfoldable pub reason_of : ℕ → ℕ → Round → Explanation
 reason_of r c x =
     let e = set_by r c x in
     reason e (cond (all_whole r c x) AllWhole (cond (eqb (count_in r c x e) (down x.left (expected_in r c x e))) Down Up))

@@ -7,7 +7,7 @@ ghost use Rattle.reasons.specs.Reason.{reason_of};
 ghost use Rattle.reasons.specs.Call.{reason_answer};
 ghost use Rattle.reasons.specs.Clauses.{entry_at, directed, Remains};
 
-use crate::{Direction, Entry, Reason};
+use crate::{Direction, Entry, Explanation};
 use grid::entries;
 use limit_search::first_place;
 use planning::round::{next_array, one_round};
@@ -20,18 +20,12 @@ pub fn entry_at(place: usize) -> Entry
     requires { place < 169 }
     ensures { result ≡ entry_at place }
 {
-    let p = place / 13;
-    let q = place % 13;
-    if p < 12 {
-        if q < 12 {
-            return Entry::Cell(p as u32 + 1, q as u32 + 1);
-        }
-        return Entry::RowTotal(p as u32 + 1);
+    match (place / 13, place % 13) {
+        (12, 12) => Entry::GrandTotal,
+        (12, q) => Entry::ColumnTotal(q as u32 + 1),
+        (p, 12) => Entry::RowTotal(p as u32 + 1),
+        (p, q) => Entry::Cell(p as u32 + 1, q as u32 + 1),
     }
-    if q < 12 {
-        return Entry::ColumnTotal(q as u32 + 1);
-    }
-    Entry::GrandTotal
 }
 
 // How an entry over w with its count was rounded, where the weight is x. All are whole just if the weight is all that is left.
@@ -51,7 +45,7 @@ fn direction(w: u64, x: u64, entry: u64, count: u64) -> Direction
 }
 
 // The reason of the next array of a remaining table with entries e over w.
-fn reason_of(e: &[u64; 169], w: u64, rows: usize, columns: usize) -> Reason
+fn reason_of(e: &[u64; 169], w: u64, rows: usize, columns: usize) -> Explanation
     requires { Remains rows columns w e.now }
     ensures { (g : List ℕ) → Shape rows columns g → e.now ≡ grid_of rows columns g → result ≡ reason_of rows columns (round_on rows columns w g) }
 {
@@ -59,28 +53,28 @@ fn reason_of(e: &[u64; 169], w: u64, rows: usize, columns: usize) -> Reason
     let mut l = [0u64; 169];
     let x = next_array(e, w, &mut n, &mut l);
     let k = first_place(&l, x, rows, columns);
-    Reason {
+    Explanation {
         entry: entry_at(k),
         direction: direction(w, x, e[k], n[k]),
     }
 }
 
 // The reason of the weight of an array, from 1 on, of an accepted table's plan; refused where the rounds end before it.
-pub fn find(t: Table, cells: &[u32], array: u32) -> Result<Reason, Refusal>
+pub fn find(t: Table, cells: &[u32], array: u32) -> Result<Explanation, Refusal>
     requires { IsTable t.rows t.columns t.denominator cells.now }
     ensures { result ≡ reason_answer t.rows t.columns t.denominator cells.now array }
 {
     let mut e = entries(t, cells);
     let mut w = t.denominator;
-    let mut k: u32 = 0;
-    while w > 0 {
-        k = k + 1;
+    for k in 1..=array {
+        if w == 0 {
+            break;
+        }
         if k == array {
             return Ok(reason_of(&e, w, t.rows, t.columns));
         }
         let mut n = [0u64; 169];
-        let x = one_round(&mut e, w, &mut n);
-        w = w - x;
+        w -= one_round(&mut e, w, &mut n);
     }
     Err(Refusal::Array)
 }

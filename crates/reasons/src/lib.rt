@@ -34,13 +34,19 @@ pub enum Direction {
 
 // The reason of an array's weight: the entry that set it, and the way it was rounded.
 #[derive(Clone, Copy, Debug, PartialEq, Eq)]
-pub struct Reason {
+pub struct Explanation {
     pub entry: Entry,
     pub direction: Direction,
 }
 
 // The reason of the weight of an array, from 1 on, of a table's plan, or the first refusal that applies.
-pub fn reason(rows: u32, columns: u32, denominator: u32, cells: &[u32], array: u32) -> Result<Reason, Refusal>
+pub fn reason(
+    rows: u32,
+    columns: u32,
+    denominator: u32,
+    cells: &[u32],
+    array: u32,
+) -> Result<Explanation, Refusal>
     ensures { result ≡ reason_answer rows columns denominator cells.now array }
 {
     let t = check(rows, columns, denominator, cells)?;

@@ -2,8 +2,8 @@ use Rattle.reasons.proofs.Setting.{place_small, place_scaled, reason_told}
 use borrow.Author.Rules.{rules}
 use Rattle.reasons.proofs.find.reason_of.Goals as goal
 
-pub entry_at-named-requires : goal.entry_at-named-requires
-entry_at-named-requires c = search (rules, place_small)
+pub entry_at-requires : goal.entry_at-requires
+entry_at-requires c = search (rules, place_small)
 
 pub offset_bounds-e-k : goal.offset_bounds-e-k
 offset_bounds-e-k c = search (rules, place_scaled)
@@ -18,4 +18,4 @@ pub bounds-n-k : goal.bounds-n-k
 bounds-n-k c = search (rules, place_small)
 
 pub returns : goal.returns
-returns c = λ g shape is. reason_told c.next_array-x.ensures c.requires.some g shape is c.first_place-k.ensures c.entry_at-named.ensures c.direction.ensures
+returns c = λ g shape is. reason_told c.next_array-x.ensures c.requires.some g shape is c.first_place-k.ensures c.entry_at.ensures c.direction.ensures
