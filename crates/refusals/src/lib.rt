@@ -8,6 +8,8 @@ ghost use Rattle.refusals.specs.Answer.{answer_number};
 ghost use Rattle.refusals.specs.Due.{Test, due, none_applies, FirstDue};
 ghost use Rattle.refusals.specs.Clauses.{lower_of};
 
+use std::cmp::min_by_key;
+
 // Why a call refuses its input, in the order of the refusals' numbers.
 #[derive(Clone, Copy, Debug, PartialEq, Eq)]
 pub enum Refusal {
@@ -75,7 +77,7 @@ impl From<Refusal> for u32 {
 pub fn lower(x: Refusal, y: Refusal) -> Refusal
     ensures { result ≡ lower_of x y }
 {
-    if u32::from(x) <= u32::from(y) { x } else { y }
+    min_by_key(x, y, |r| u32::from(*r))
 }
 
 // The number of an answer: 0 where there is no refusal.
