@@ -7,7 +7,7 @@ use Prim.Native.Nat.{ℕ, ◌*◌, ◌<◌, ◌≤◌}
 use native.Mathlib.Omega.{arith}
 use lib.ListN.{length, set}
 use lib.Dec.{ltb}
-use borrow.Author.Tests.{lt-ltb, le-ltb, ltb-true, ltb-false, not-true, not-false}
+use borrow.Author.Tests.{lt-ltb, le-ltb, not-true, not-false}
 use Rattle.base.specs.Buffers.{written}
 use Rattle.base.proofs.Buffers.{one_set}
 use Rattle.refusals.specs.declared.Refusal.{Refusal}
@@ -23,10 +23,6 @@ use Rattle.pool.specs.Clauses.{parts_answer, Denominators, scale_of, Scaled, Wri
 use Rattle.pool.proofs.Checking.{Both, both, PairTaken, parts_refused, parts_taken}
 use Rattle.pool.proofs.Scales.{cells_of, scale_scaled}
 use Rattle.pool.proofs.Pooling.{multiple_due, cell_due, nothing_due}
-
--- the multiple fits 32 bits where it is not above its bound
-pub multiple_narrow : (m : ℕ) → ltb 65535 m ≡ false → m ≤ 4294967295
-multiple_narrow m h = omega (arith, ltb-false 65535 m h)
 
 -- the call's answer, by what is due
 module _ (r c d : ℕ) (g : List ℕ) (e : ℕ) (h numbers cells : List ℕ) where
@@ -47,17 +43,17 @@ module _ (r c d : ℕ) (g : List ℕ) (e : ℕ) (h numbers cells : List ℕ) whe
     unfolding due
     short_numbers l = refused_so (buffer_by ∙ simp (lt-ltb (length numbers) 1 l))
 
-    module _ (Some : 1 ≤ length numbers) where
+    module _ (some : 1 ≤ length numbers) where
       short_cells : length cells < r * c → Says (Err Buffer) (lent numbers cells)
       unfolding due
-      short_cells l = refused_so (buffer_by ∙ simp (le-ltb (length numbers) 1 Some, lt-ltb (length cells) (r * c) l))
+      short_cells l = refused_so (buffer_by ∙ simp (le-ltb (length numbers) 1 some, lt-ltb (length cells) (r * c) l))
 
       both_written : {x : ℕ} {new : List ℕ} → r * c ≤ length cells → x ≡ least_multiple d e → new ≡ written (pooled_cells d g e h) cells
-          → Says Ok tt (lent (set numbers 0 x) new)
+          → Says (Ok tt) (lent (set numbers 0 x) new)
       unfolding due
       both_written {x} {new} l p q =
-          accepted_so (buffer_by ∙ simp (le-ltb (length numbers) 1 Some, le-ltb (length cells) (r * c) l))
-          (let a : set numbers 0 x ≡ written (least_multiple d e ∷ []) numbers = one_set numbers x Some ∙ ap (λ (y : ℕ). written (y ∷ []) numbers) p in cc)
+          accepted_so (buffer_by ∙ simp (le-ltb (length numbers) 1 some, le-ltb (length cells) (r * c) l))
+          (let a : set numbers 0 x ≡ written (least_multiple d e ∷ []) numbers = one_set numbers x some ∙ ap (λ (y : ℕ). written (y ∷ []) numbers) p in cc)
 
 -- what the code knows of two parts that were accepted, of their scale and of their pooled cells
 module _ (r c d : ℕ) (g : List ℕ) (e : ℕ) (h : List ℕ) {k : Result Pair Refusal} (is : k ≡ parts_answer r c d g e h) {p : Pair} (q : k ≡ Ok p) where
@@ -85,13 +81,10 @@ module _ (r c d : ℕ) (g : List ℕ) (e : ℕ) (h : List ℕ) {k : Result Pair 
     pub cells_scaled : Scaled s g h
     cells_scaled = rw scale_is (scale_scaled denominators (r * c) g h (tables.first.shape.cells ∙ sym tables.second.shape.cells))
 
-    pub multiple_above : ltb 65535 s.denominator ≡ true → pooling_refusal r c d g e h ≡ Some Multiple
-    multiple_above l = multiple_due r c d g e h told.nothing_due (rw scale_is at (ltb-true 65535 s.denominator l))
+    pub multiple_above : 65535 < s.denominator → pooling_refusal r c d g e h ≡ Some Multiple
+    multiple_above l = multiple_due r c d g e h told.nothing_due (rw scale_is at l)
 
-    module _ (not-above : ltb 65535 s.denominator ≡ false) {b : Bool} (w : b ≡ cells_within s.denominator (cells_of s g h)) where
-      low : s.denominator ≤ 65535
-      low = ltb-false 65535 s.denominator not-above
-
+    module _ (low : s.denominator ≤ 65535) {b : Bool} (w : b ≡ cells_within s.denominator (cells_of s g h)) where
       within_is : b ≡ cells_within (least_multiple d e) (pooled_cells d g e h)
       unfolding pooled_cells
       within_is = rw scale_is at w
@@ -118,27 +111,27 @@ module _ (r c d : ℕ) (g : List ℕ) (e : ℕ) (h numbers cells : List ℕ) {k 
   parts_stop {x} q = refused_by r c d g e h numbers cells (due_first (parts_tests r c d g e h) _ x (parts_refused r c d g e h is q))
 
   module _ {p : Pair} (q : k ≡ Ok p) {s : Scale} (z : s ≡ scale_of p.cells p.first p.second) where
-    pub multiple_stops : ltb 65535 s.denominator ≡ true → Says r c d g e h numbers cells (Err Multiple) (lent numbers cells)
+    pub multiple_stops : 65535 < s.denominator → Says r c d g e h numbers cells (Err Multiple) (lent numbers cells)
     multiple_stops l = refused_by r c d g e h numbers cells (multiple_above r c d g e h is q z l)
 
-    module _ (not-above : ltb 65535 s.denominator ≡ false) {b : Bool} (w : b ≡ cells_within s.denominator (cells_of s g h)) where
+    module _ (low : s.denominator ≤ 65535) {b : Bool} (w : b ≡ cells_within s.denominator (cells_of s g h)) where
       pub cell_stops : not b ≡ true → Says r c d g e h numbers cells (Err PooledCell) (lent numbers cells)
-      cell_stops n = refused_by r c d g e h numbers cells (cell_above r c d g e h is q z not-above w n)
+      cell_stops n = refused_by r c d g e h numbers cells (cell_above r c d g e h is q z low w n)
 
       module _ (n : not b ≡ false) where
         free : pooling_refusal r c d g e h ≡ None
-        free = none_above r c d g e h is q z not-above w n
+        free = none_above r c d g e h is q z low w n
 
         pub numbers_stop : length numbers < 1 → Says r c d g e h numbers cells (Err Buffer) (lent numbers cells)
         numbers_stop l = short_numbers r c d g e h numbers cells free l
 
-        module _ (Some : 1 ≤ length numbers) where
+        module _ (some : 1 ≤ length numbers) where
           pub cells_stop : length cells < s.cells → Says r c d g e h numbers cells (Err Buffer) (lent numbers cells)
-          cells_stop l = short_cells r c d g e h numbers cells free Some (rw (scale_is r c d g e h is q z) at l)
+          cells_stop l = short_cells r c d g e h numbers cells free some (rw (scale_is r c d g e h is q z) at l)
 
           pub pooled : {x : ℕ} {new : List ℕ} → s.cells ≤ length cells → x ≡ s.denominator → new ≡ written (cells_of s g h) cells
-              → Says r c d g e h numbers cells Ok tt (lent (set numbers 0 x) new)
+              → Says r c d g e h numbers cells (Ok tt) (lent (set numbers 0 x) new)
           unfolding pooled_cells
           pooled room a v =
               let i = scale_is r c d g e h is q z in
-              both_written r c d g e h numbers cells free Some (rw i at room) (rw i at a) (rw i at v)
+              both_written r c d g e h numbers cells free some (rw i at room) (rw i at a) (rw i at v)

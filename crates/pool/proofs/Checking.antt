@@ -98,7 +98,8 @@ module _ (r c d : ℕ) (g : List ℕ) (e : ℕ) (h : List ℕ) {k : Result Pair 
   parts_refused {x} w = go (due (parts_tests r c d g e h)) refl (sym w ∙ is)
     where
       go : (o : Option Refusal) → due (parts_tests r c d g e h) ≡ o
-          → Err x ≡ refused_or Err (Ok (record { cells = r * c; first = d; second = e })) o → due (parts_tests r c d g e h) ≡ Some x
+          → ◌≡◌ {A = Result Pair Refusal} (Err x) (refused_or Err (Ok (record { cells = r * c; first = d; second = e })) o)
+          → due (parts_tests r c d g e h) ≡ Some x
       go None a b = absurd (let z : ◌≡◌ {A = ℕ} 0 1 = cc in omega arith)
       go (Some y) a b = a ∙ cc
 

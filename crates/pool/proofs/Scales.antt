@@ -1,14 +1,17 @@
 -- The numbers of a scale, and pooled cells by it. Assumes nothing.
-use mathlib.Core.Path.{◌≡◌, sym, ap, ◌∙◌}
-use mathlib.Core.Bool.{true, false}
-use mathlib.Core.List.{List}
+use mathlib.Core.Path.{◌≡◌, refl, sym, ap, ◌∙◌}
+use mathlib.Core.Bool.{Bool, ◌&&◌}
+use mathlib.Core.List.{List, [], ◌∷◌, zip_with}
 use Prim.Native.Nat.{ℕ, ◌+◌, ◌*◌, ◌<◌, ◌≤◌}
 use native.Mathlib.Nat.{mul-le-mul, mul_comm, mul-zero, div-le_of_le-mul}
 use native.Mathlib.Omega.{arith}
 use lib.ListN.{length, get_or, set}
+use lib.Dec.{leb}
 use borrow.Author.Tests.{leb-true}
 use mir.Val.{Fits}
-use mir.Syntax.{w64}
+use mir.Syntax.{w32, w64}
+use Rattle.std.specs.List.{list_all, zip}
+use Rattle.base.specs.Lists.{all}
 use Rattle.base.specs.Buffers.{written}
 use Rattle.base.specs.Clauses.{Filled}
 use Rattle.base.proofs.Zips.{zip_length, zip_at}
@@ -16,7 +19,6 @@ use Rattle.base.proofs.Lists.{all_elim}
 use Rattle.base.proofs.Tabulated.{tabulate_get_d}
 use Rattle.base.proofs.Filling.{front_more, front_all}
 use Rattle.table.specs.Check.{cells_within}
-use Rattle.table.proofs.Checks.{Within, within_more, within_all, within_not}
 use Rattle.multiples.specs.Multiple.{least_multiple}
 use Rattle.multiples.specs.Clauses.{Multipliable}
 use Rattle.multiples.proofs.Multiples.{multiple_small}
@@ -67,27 +69,24 @@ module _ {s : Scale} {g h : List ℕ} (ready : Scaled s g h) where
   pub second_inside : (i : ℕ) → i < length g → i < length h
   second_inside i l = omega (arith, ready.alike)
 
-  -- the loop that compares
-  pub bound_fits : Fits w64 (1000 * s.denominator)
-  bound_fits = record { fits = omega (arith, ready.denominator_small) }
+-- a test of the pairs of two lists, as one of what is made of each pair
+zipped : (t : ℕ → Bool) (f : ℕ → ℕ → ℕ) (g h : List ℕ) → list_all (λ (p : ℕ × ℕ). t (f p.0 p.1)) (zip g h) ≡ all t (zip_with f g h)
+unfolding all zip_with
+zipped t f [] h = refl
+zipped t f (x ∷ g) [] = refl
+zipped t f (x ∷ g) (y ∷ h) = ap (λ (b : Bool). t (f x y) && b) (zipped t f g h)
 
-  pub cell_above : (i x : ℕ) → i < length g → x ≡ cell_at s g h i → 1000 * s.denominator < x → false ≡ cells_within s.denominator (cells_of s g h)
-  cell_above i x l e a = within_not s.denominator (cells_of s g h) i (omega (arith, cells_length)) (omega (arith, cells_at i))
-
-  pub cell_below : {i : ℕ} (x : ℕ) → Within s.denominator (cells_of s g h) i → x ≡ cell_at s g h i → x ≤ 1000 * s.denominator
-      → Within s.denominator (cells_of s g h) (i + 1)
-  cell_below {i} x w e a = within_more w (omega (arith, cells_at i))
-
-  pub cells_below : {i : ℕ} → Within s.denominator (cells_of s g h) i → length g ≤ i → true ≡ cells_within s.denominator (cells_of s g h)
-  cells_below w l = within_all w (omega (arith, cells_length))
+pub cells_tested : (s : Scale) (g h : List ℕ) (bound : ℕ) → bound ≡ 1000 * s.denominator
+    → list_all (λ (p : ℕ × ℕ). leb (s.first * p.0 + s.second * p.1) bound) (zip g h) ≡ cells_within s.denominator (cells_of s g h)
+cells_tested s g h bound e = rw e (zipped (λ x. leb x (1000 * s.denominator)) (λ x y. s.first * x + s.second * y) g h)
 
 -- the loop that writes
 module _ {s : Scale} {g h old : List ℕ} (ready : Writable s g h old) where
-  pub cell_narrow : (i x : ℕ) → i < length g → x ≡ cell_at s g h i → x ≤ 4294967295
+  pub cell_narrow : (i x : ℕ) → i < length g → x ≡ cell_at s g h i → Fits w32 x
   cell_narrow i x l e =
       let inside : i < length (cells_of s g h) = omega (arith, cells_length ready.scaled) in
       let low : get_or (cells_of s g h) i 0 ≤ 1000 * s.denominator = leb-true _ _ (all_elim _ (cells_of s g h) 0 ready.within i inside) in
-      omega (arith, cells_at ready.scaled i, ready.denominator_small)
+      record { fits = omega (arith, cells_at ready.scaled i, ready.denominator_small) }
 
   pub cell_stored : {new : List ℕ} {i : ℕ} (x y : ℕ) → Filled (cell_at s g h) 0 old new i → i < length g → x ≡ cell_at s g h i → y ≡ x
       → Filled (cell_at s g h) 0 old (set new i y) (i + 1)

@@ -21,15 +21,11 @@ pub fn pooled_within(s: Scale, first: &[u32], second: &[u32]) -> bool
     requires { Scaled s first.now second.now }
     ensures { result ≡ cells_within s.denominator (scaled_cells s.first s.second first.now second.now) }
 {
-    let bound = (Table::MAX_EXPECTED as u64) * s.denominator;
-    let mut i = 0;
-    while i < first.len() {
-        if bound < pooled_cell(s, first[i], second[i]) {
-            return false;
-        }
-        i += 1;
-    }
-    true
+    let bound = u64::from(Table::MAX_EXPECTED) * s.denominator;
+    first
+        .iter()
+        .zip(second)
+        .all(|(x, y)| pooled_cell(s, *x, *y) <= bound)
 }
 
 // Writes the pooled cells.

@@ -15,23 +15,26 @@ pub struct Pair {
 }
 
 // Both tables' cells and denominators, or the lowest refusal that applies to either. d and e are the denominators of the first and of the second.
-pub fn check_parts(rows: u32, columns: u32, d: u32, first: &[u32], e: u32, second: &[u32]) -> Result<Pair, Refusal>
+pub fn check_parts(
+    rows: u32,
+    columns: u32,
+    d: u32,
+    first: &[u32],
+    e: u32,
+    second: &[u32],
+) -> Result<Pair, Refusal>
     ensures { result ≡ parts_answer rows columns d first.now e second.now }
 {
     let one = check(rows, columns, d, first);
     let other = check(rows, columns, e, second);
-    match one {
-        Err(x) => match other {
-            Err(y) => Err(lower(x, y)),
-            Ok(u) => Err(x),
-        },
-        Ok(t) => match other {
-            Err(y) => Err(y),
-            Ok(u) => Ok(Pair {
-                cells: t.rows * t.columns,
-                first: t.denominator,
-                second: u.denominator,
-            }),
-        },
+    match (one, other) {
+        (Ok(t), Ok(u)) => Ok(Pair {
+            cells: t.rows * t.columns,
+            first: t.denominator,
+            second: u.denominator,
+        }),
+        (Ok(_), Err(y)) => Err(y),
+        (Err(x), Ok(_)) => Err(x),
+        (Err(x), Err(y)) => Err(lower(x, y)),
     }
 }

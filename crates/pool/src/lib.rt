@@ -10,7 +10,7 @@ ghost use Rattle.pool.specs.Clauses.{Denominators, scale_of};
 ghost use Rattle.pool.specs.Examples.{cases, pooled, said};
 
 use crate::cells::{pooled_within, write_pooled};
-use crate::check::{Pair, Parts, check_parts};
+use crate::check::{Pair, check_parts};
 use multiples::lcm;
 use refusals::Refusal;
 use table::Table;
@@ -58,30 +58,20 @@ pub fn pool(
         (pooled_into d first.now e second.now (lent denominator.old cells.old))
         (lent denominator.old cells.old) result (lent denominator.new cells.new) }
 {
-    let parts = check_parts(rows, columns, d, first, e, second);
-    match parts {
-        Err(x) => Err(x),
-        Ok(p) => {
-            let s = scale_of(p);
-            let above = (Table::MAX_DENOMINATOR as u64) < s.denominator;
-            let within = pooled_within(s, first, second);
-            if above {
-                return Err(Refusal::Multiple);
-            }
-            if !within {
-                return Err(Refusal::PooledCell);
-            }
-            if denominator.len() < 1 {
-                return Err(Refusal::Buffer);
-            }
-            if cells.len() < s.cells {
-                return Err(Refusal::Buffer);
-            }
-            denominator[0] = s.denominator as u32;
-            write_pooled(s, first, second, cells);
-            Ok(())
-        }
+    let p = check_parts(rows, columns, d, first, e, second)?;
+    let s = scale_of(p);
+    if u64::from(Table::MAX_DENOMINATOR) < s.denominator {
+        return Err(Refusal::Multiple);
     }
+    if !pooled_within(s, first, second) {
+        return Err(Refusal::PooledCell);
+    }
+    if denominator.is_empty() || cells.len() < s.cells {
+        return Err(Refusal::Buffer);
+    }
+    denominator[0] = s.denominator as u32;
+    write_pooled(s, first, second, cells);
+    Ok(())
 }
 
 // Of every two tables that are not refused the pool is their exact sum, over the least common multiple, and an accepted table; a cell of either below zero is

@@ -4,16 +4,16 @@ use Rattle.pool.proofs.Checking.{both_refused, first_refused, second_refused, pr
 use Rattle.pool.proofs.check.check_parts.Goals as goal
 
 pub overflow_mul-result : goal.overflow_mul-result
-overflow_mul-result c = product_fits _ _ _ _ c.check-one.ensures c.in-Accepted.is
+overflow_mul-result c = product_fits _ _ _ _ c.check-one.ensures c.in-Ok-Ok.is-0
 
-pub returns-in-Refused-other : goal.returns-in-Refused-other
-returns-in-Refused-other c = search (rules, both_refused)
+pub returns-in-Ok-Ok : goal.returns-in-Ok-Ok
+returns-in-Ok-Ok c = search (rules, both_accepted)
 
-pub returns-in-Accepted-other : goal.returns-in-Accepted-other
-returns-in-Accepted-other c = search (rules, first_refused)
+pub returns-in-Ok-Err : goal.returns-in-Ok-Err
+returns-in-Ok-Err c = search (rules, second_refused)
 
-pub returns-in-Refused-other-2 : goal.returns-in-Refused-other-2
-returns-in-Refused-other-2 c = search (rules, second_refused)
+pub returns-in-Err-Ok : goal.returns-in-Err-Ok
+returns-in-Err-Ok c = search (rules, first_refused)
 
-pub returns-in-Accepted-other-2 : goal.returns-in-Accepted-other-2
-returns-in-Accepted-other-2 c = search (rules, both_accepted)
+pub returns-in-Err-Err : goal.returns-in-Err-Err
+returns-in-Err-Err c = search (rules, both_refused)
