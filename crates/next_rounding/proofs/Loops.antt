@@ -9,6 +9,7 @@ use native.Mathlib.Omega.{arith}
 use lib.Arith.{digits_lt, digits_div, digits_mod}
 use lib.ListN.{length, get_or, set, take, length-set}
 use lib.Seq.{get_or-set_same, get_or-set_other}
+use Rattle.std.proofs.lemmas.List.{get_or-take, length-take, length-take-le}
 use lib.Pow.{pow_mono, pow-add}
 use mir.Syntax.{w32, w64}
 use mir.Val.{Fits}
@@ -20,7 +21,7 @@ use Rattle.cell_order.specs.Order.{nth_row, nth_column, rank}
 use Rattle.cell_order.proofs.Ranks.{nth_row_lem, nth_column_lem, nth_rank, rank_row, rank_column, rank_below}
 use Rattle.table.specs.Table.{entry_places}
 use Rattle.is_rounding.specs.Clauses.{entries_between, Counts}
-use Rattle.next_rounding.specs.Clauses.{Small, nth_place, Places, digit, value_of, digit_at, number_in, numbered, Lows, NumberReady, ArrayReady, SearchReady, passes, FirstFrom}
+use Rattle.next_rounding.specs.Clauses.{Small, nth_place, Places, digit, value_of, digit_at, number_in, numbered, IsNumbering, NumberReady, passes, NoneFrom, FirstFrom}
 use Rattle.next_rounding.proofs.Digits.{value_more}
 
 module _ {r c : ℕ} (s : Small r c) where
@@ -47,30 +48,44 @@ module _ {r c : ℕ} (s : Small r c) where
         let b : q ≡ nth_column r c i = sym (digits_mod p hq) ∙ ap (λ (k : ℕ). k % c) e ∙ digits_mod (nth_row r c i) column_inside in
         ap₂ (rank r c) a b ∙ nth_rank s.some_rows s.some_columns i h
 
+-- the numbers of the arrays end at a power of two
+module _ {r c : ℕ} (s : Small r c) where
+  pub power_few : 2 ^ (r * c) ≤ 65536
+  power_few = pow_mono {j = 16} (few_cells s)
+
+  pub power_is : 1 * 2 ^ (r * c) % 4294967296 ≡ 2 ^ (r * c)
+  power_is = omega (arith, power_few)
+
 -- the place of the next cell, by its row and column
-module _ {r c : ℕ} (s : Small r c) {cells i : ℕ} (e : cells ≡ r * c) (h : i < cells) where
-  inside : nth_place r c i < r * c
-  inside = nth_inside s (omega arith)
+module _ {r c : ℕ} (s : Small r c) {i : ℕ} (h : i < r * c) {x : ℕ} (e : x ≡ nth_row r c i) where
+  row_is : x * c ≡ nth_row r c i * c
+  row_is = ap (λ (a : ℕ). a * c) e
 
-  pub row_fits : {x : ℕ} → x ≡ nth_row r c i → Fits w64 (x * c)
-  row_fits {x} f = let z : x * c ≡ nth_row r c i * c = ap (λ (a : ℕ). a * c) f in record { fits = omega (arith, inside, few_cells s) }
+  pub row_fits : Fits w64 (x * c)
+  row_fits = record { fits = omega (arith, row_is, nth_inside s h, few_cells s) }
 
-  pub place_fits : {x y : ℕ} → x ≡ nth_row r c i → y ≡ nth_column r c i → Fits w64 (x * c + y)
-  place_fits {x} {y} f g = let z : x * c ≡ nth_row r c i * c = ap (λ (a : ℕ). a * c) f in record { fits = omega (arith, inside, few_cells s) }
+  pub place_fits : {y : ℕ} → y ≡ nth_column r c i → Fits w64 (x * c + y)
+  place_fits f = record { fits = omega (arith, row_is, nth_inside s h, few_cells s) }
 
--- the place of the next cell
-module _ {r c : ℕ} {places low : List ℕ} (t : Lows r c places low) {cells i : ℕ} (e : cells ≡ r * c) (h : i < cells) where
-  next_is : get_or places i 0 ≡ nth_place r c i
-  next_is = t.places_are.are i (omega arith)
+-- the place of the next cell, of those that a loop goes through
+module _ {r c : ℕ} {places low high : List ℕ} (t : IsNumbering r c places low high) {i : ℕ} (h : i < length (take (r * c) places)) where
+  pub next_index : i < r * c
+  next_index = omega (arith, length-take (r * c) places)
 
-  next_inside : get_or places i 0 < r * c
-  next_inside = let l : i < r * c = omega arith in omega (arith, next_is, nth_inside t.small l)
+  pub next_few : i < 16
+  next_few = omega (arith, next_index, few_cells t.small)
 
-  pub next_small : get_or places i 0 < 16
+  pub next_is : get_or (take (r * c) places) i 0 ≡ nth_place r c i
+  next_is = get_or-take (r * c) places i 0 next_index ∙ t.places_are.are i next_index
+
+  pub next_inside : get_or (take (r * c) places) i 0 < r * c
+  next_inside = omega (arith, next_is, nth_inside t.small next_index)
+
+  pub next_small : get_or (take (r * c) places) i 0 < 16
   next_small = omega (arith, next_inside, few_cells t.small)
 
-  pub next_low : get_or low (get_or places i 0) 0 ≤ 1000
-  next_low = t.counts (get_or places i 0) next_inside
+  pub next_low : get_or low (get_or (take (r * c) places) i 0) 0 ≤ 1000
+  next_low = t.counts (get_or (take (r * c) places) i 0) next_inside
 
 -- the places
 pub record PlacesTo (r c : ℕ) (l : List ℕ) (i : ℕ) : Type 0 where
@@ -81,15 +96,15 @@ pub places_none : (r c : ℕ) (l : List ℕ) → length l ≡ 16 → PlacesTo r 
 places_none r c l e = record { len = e; are = λ j h. absurd (omega arith) }
 
 module _ {r c : ℕ} {l : List ℕ} {i : ℕ} (p : PlacesTo r c l i) where
-  pub places_more : Small r c → {cells : ℕ} → cells ≡ r * c → i < cells → {x y : ℕ} → x ≡ nth_row r c i → y ≡ nth_column r c i
+  pub places_more : Small r c → i < r * c → {x y : ℕ} → x ≡ nth_row r c i → y ≡ nth_column r c i
       → PlacesTo r c (set l i (x * c + y)) (i + 1)
-  places_more s q h {x} {y} e f = record {
+  places_more s h {x} {y} e f = record {
     len = length-set l i (x * c + y) ∙ p.len;
     are = each_more (λ (j : ℕ) (v : ℕ). v ≡ nth_place r c j) l i (x * c + y) (omega (arith, p.len, few_cells s)) p.are (ap₂ (λ (a b : ℕ). a * c + b) e f);
   }
 
-  pub places_all : {n : ℕ} → n ≡ r * c → n ≤ i → Places r c l
-  places_all e h = record { len = p.len; are = λ j q. p.are j (omega arith) }
+  pub places_all : r * c ≤ i → Places r c l
+  places_all h = record { len = p.len; are = λ j q. p.are j (omega arith) }
 
 -- the number of the digits so far
 pub record ValueTo (b : ℕ → ℕ) (i x : ℕ) : Type 0 where
@@ -117,40 +132,37 @@ module _ {b : ℕ → ℕ} {i x : ℕ} (v : ValueTo b i x) (h : i < 16) where
     value_next : ValueTo b (i + 1) (2 * x + y)
     value_next = record { is = omega (arith, v.is, value_more i b); small = omega (arith, v.small, power_more i) }
 
--- the digit of the next cell
-module _ {r c : ℕ} {places low n : List ℕ} (ready : NumberReady r c places low n) {cells i : ℕ} (e : cells ≡ r * c) (h : i < cells) where
-  abbrev p : ℕ
-  p = get_or places i 0
+-- they are all cells
+pub all_places : {r c : ℕ} {places low high : List ℕ} → IsNumbering r c places low high → length (take (r * c) places) ≡ r * c
+all_places {r} {c} {places} t = length-take-le (r * c) places (omega (arith, t.places_are.len, few_cells t.small))
 
-  p_inside : p < r * c
-  p_inside = next_inside ready.lows e h
+-- the digit of the next cell
+module _ {r c : ℕ} {places low high n : List ℕ} (t : IsNumbering r c places low high) (ready : NumberReady r c low n) {i : ℕ} (h : i < length (take (r * c) places)) where
+  abbrev p : ℕ
+  p = get_or (take (r * c) places) i 0
 
   pub read_inside : p < length n
-  read_inside = omega (arith, p_inside, ready.len)
+  read_inside = omega (arith, next_inside t h, ready.len)
 
   module _ {y : ℕ} (f : y ≡ get_or n p 0) where
     pub not_below : get_or low p 0 ≤ y
-    not_below = omega (arith, ready.least p p_inside)
+    not_below = omega (arith, ready.least p (next_inside t h))
 
     digit_is : y - get_or low p 0 ≡ digit_at r c low n i
-    digit_is = ap₂ (λ (a b : ℕ). a - get_or low b 0) (f ∙ ap (λ (k : ℕ). get_or n k 0) (next_is ready.lows e h)) (next_is ready.lows e h)
+    digit_is = ap (λ (x : ℕ). x - get_or low p 0) f ∙ ap (λ (q : ℕ). get_or n q 0 - get_or low q 0) (next_is t h)
 
     digit_small : digit_at r c low n i ≤ 1
-    digit_small = omega (arith, digit_is, ready.most p p_inside)
+    digit_small = omega (arith, digit_is, ready.most p (next_inside t h))
 
     module _ {x : ℕ} (v : ValueTo (digit_at r c low n) i x) where
-      small_index : i < 16
-      small_index = omega (arith, few_cells ready.lows.small)
-
       pub number_fits : Fits w32 (2 * x + (y - get_or low p 0))
-      number_fits = value_fits v small_index digit_is digit_small
+      number_fits = value_fits v (next_few t h) digit_is digit_small
 
       pub number_more : ValueTo (digit_at r c low n) (i + 1) (2 * x + (y - get_or low p 0))
-      number_more = value_next v small_index digit_is digit_small
+      number_more = value_next v (next_few t h) digit_is digit_small
 
-pub number_all : {r c : ℕ} {places low n : List ℕ} → NumberReady r c places low n → {cells i x : ℕ} → cells ≡ r * c → ValueTo (digit_at r c low n) i x
-    → i ≤ cells → cells ≤ i → x ≡ number_in r c low n
-number_all {r} {c} ready {i = i} e v h l = let f : i ≡ r * c = omega arith in rw f at v.is
+pub number_all : (r c : ℕ) (low n : List ℕ) {i x : ℕ} → ValueTo (digit_at r c low n) i x → i ≤ r * c → r * c ≤ i → x ≡ number_in r c low n
+number_all r c low n {i} v h l = let f : i ≡ r * c = omega arith in rw f at v.is
 
 -- the counts, which are stored in the order of cells
 pub record StoredTo (r c : ℕ) (low : List ℕ) (x : ℕ) (old new : List ℕ) (i : ℕ) : Type 0 where
@@ -182,9 +194,9 @@ module _ {r c : ℕ} {low : List ℕ} {x : ℕ} {old new : List ℕ} {i : ℕ} (
           less (yes z) = absurd (q (ap₂ (λ (m n : ℕ). m * c + n) (sym (rank_row ha hb) ∙ ap (nth_row r c) z) (sym (rank_column ha hb) ∙ ap (nth_column r c) z) ∙ sym e))
           less (no z) = omega arith
 
-  pub stored_all : Small r c → {n : ℕ} → n ≡ r * c → n ≤ i → r * c ≤ length old → new ≡ written (numbered r c low x) old
+  pub stored_all : Small r c → r * c ≤ i → r * c ≤ length old → new ≡ written (numbered r c low x) old
   unfolding numbered
-  stored_all s e h room = filled_written (record {
+  stored_all s h room = filled_written (record {
     len = t.len;
     inside = λ k l. rw (zero-add k) (at k l);
     before = λ k l. absurd (omega arith);
@@ -198,59 +210,52 @@ module _ {r c : ℕ} {low : List ℕ} {x : ℕ} {old new : List ℕ} {i : ℕ} (
           rw (div-add-mod' k c) at (t.counts (k / c) (k % c) row column (omega (arith, rank_below row column)))
 
 -- the next count
-module _ {r c : ℕ} {places low old : List ℕ} (ready : ArrayReady r c places low old) {cells i : ℕ} (e : cells ≡ r * c) (h : i < cells)
+module _ {r c : ℕ} {places low high old : List ℕ} (ready : IsNumbering r c places low high) (room : r * c ≤ length old) {i : ℕ} (h : i < length (take (r * c) places))
     {x : ℕ} {new : List ℕ} (t : StoredTo r c low x old new i) where
-  pub store_inside : get_or places i 0 < length new
-  store_inside = omega (arith, next_inside ready.lows e h, t.len, ready.room)
+  pub store_inside : get_or (take (r * c) places) i 0 < length new
+  store_inside = omega (arith, next_inside ready h, t.len)
 
-  pub store_more : {v : ℕ} → v ≡ get_or low (get_or places i 0) 0 + x / 2 ^ (cells - 1 - i) % 2 → StoredTo r c low x old (set new (get_or places i 0) v) (i + 1)
-  store_more f = stored_more t ready.lows.small (omega arith) ready.room (next_is ready.lows e h)
-      (f ∙ ap (λ (k : ℕ). get_or low (get_or places i 0) 0 + x / 2 ^ (k - 1 - i) % 2) e)
+  pub store_more : {v : ℕ} → v ≡ get_or low (get_or (take (r * c) places) i 0) 0 + x / 2 ^ (r * c - 1 - i) % 2
+      → StoredTo r c low x old (set new (get_or (take (r * c) places) i 0) v) (i + 1)
+  store_more f = stored_more t ready.small (next_index ready h) room (next_is ready h) f
 
 -- a search: the numbers from `from` on that were passed over
 pub record Passed (test : ℕ → Bool) (from x : ℕ) : Type 0 where
-  pub least : from ≤ x
   pub skipped : (y : ℕ) → from ≤ y → y < x → test y ≡ false
 
 pub passed_none : (test : ℕ → Bool) (from : ℕ) → Passed test from from
-passed_none test from = record { least = omega arith; skipped = λ y h l. absurd (omega arith) }
+passed_none test from = record { skipped = λ y h l. absurd (omega arith) }
 
 module _ {test : ℕ → Bool} {from x : ℕ} (p : Passed test from x) where
   pub passed_more : test x ≡ false → Passed test from (x + 1)
-  passed_more e = record { least = omega (arith, p.least); skipped = λ y h l. at y h (ℕ_discrete y x) l }
+  passed_more e = record { skipped = λ y h l. at y h (ℕ_discrete y x) l }
     where
       at : (y : ℕ) → from ≤ y → Dec (y ≡ x) → y < x + 1 → test y ≡ false
       at y h (yes q) l = rw q e
       at y h (no q) l = p.skipped y h (omega arith)
 
-  pub first_found : (end : ℕ) → test x ≡ true → FirstFrom test from end x
-  first_found end e = record { least = p.least; skipped = p.skipped; passes = λ l. e }
+  pub first_found : {end : ℕ} → from ≤ x → x < end → test x ≡ true → FirstFrom test from end x
+  first_found a b e = record { least = a; below = b; skipped = p.skipped; passes = e }
 
-  pub none_found : (end : ℕ) → end ≤ x → FirstFrom test from end x
-  none_found end h = record { least = p.least; skipped = p.skipped; passes = λ l. absurd (omega arith) }
+  pub none_found : {end : ℕ} → end ≤ x → NoneFrom test from end
+  none_found h = record { skipped = λ y a l. p.skipped y a (omega arith) }
 
 -- the counts of an array in a longer buffer
-module _ {r c : ℕ} {places low high : List ℕ} {end : ℕ} (ready : SearchReady r c places low high end) {cells : ℕ} (e : cells ≡ r * c)
-    (old : List ℕ) {new : List ℕ} (room : length old ≡ 16) (x : ℕ) (w : new ≡ written (numbered r c low x) old) where
+module _ {r c : ℕ} {places low high : List ℕ} (ready : IsNumbering r c places low high) (old : List ℕ) {new : List ℕ} (room : length old ≡ 16)
+    (x : ℕ) (w : new ≡ written (numbered r c low x) old) where
   array_length : length (numbered r c low x) ≡ r * c
   unfolding numbered
   array_length = length_tabulate (r * c) _
 
   pub buffer_length : length new ≡ 16
-  buffer_length = ap length w ∙ written_length (numbered r c low x) old array_length (omega (arith, few_cells ready.lows.small)) ∙ room
+  buffer_length = ap length w ∙ written_length (numbered r c low x) old array_length (omega (arith, few_cells ready.small)) ∙ room
 
-  pub prefix_fits : cells ≤ length new
-  prefix_fits = omega (arith, buffer_length, few_cells ready.lows.small)
+  prefix_is : take (r * c) new ≡ numbered r c low x
+  prefix_is = ap (take (r * c)) w ∙ written_front (numbered r c low x) old array_length
 
-  prefix_is : take cells new ≡ numbered r c low x
-  prefix_is = ap₂ (λ (k : ℕ) (l : List ℕ). take k l) e w ∙ written_front (numbered r c low x) old array_length
-
-  pub prefix_length : cells ≡ length (take cells new)
-  prefix_length = e ∙ sym (ap length prefix_is ∙ array_length)
-
-  pub held_ready : Counts r c (take cells new) low high
+  pub held_ready : Counts r c (take (r * c) new) low high
   held_ready =
-      let s = ready.lows.small in
+      let s = ready.small in
       record {
         shape = record {
           some_rows = s.some_rows;
@@ -262,5 +267,5 @@ module _ {r c : ℕ} {places low high : List ℕ} {end : ℕ} (ready : SearchRea
         room = ready.room;
       }
 
-  pub held_is : {b : Bool} → b ≡ entries_between (entry_places r c) (take cells new) low high → b ≡ passes r c low high x
+  pub held_is : {b : Bool} → b ≡ entries_between (entry_places r c) (take (r * c) new) low high → b ≡ passes r c low high x
   held_is f = f ∙ ap (λ (l : List ℕ). entries_between (entry_places r c) l low high) prefix_is

@@ -49,37 +49,37 @@ pub record CountReady (low place : ℕ) : Type 0 where
   pub small : low ≤ 1000
   pub below : place < 16
 
--- counts rounded down, with the places of the cells
-pub record Lows (r c : ℕ) (places low : List ℕ) : Type 0 where
+-- what arrays are numbered by: the places of the cells, and the bounds of the entries, of which those of the cells are counts
+pub record IsNumbering (r c : ℕ) (places low high : List ℕ) : Type 0 where
   pub small : Small r c
   pub places_are : Places r c places
-  pub len : length low ≡ 169
+  pub room : Room low high
   pub counts : (p : ℕ) → p < r * c → get_or low p 0 ≤ 1000
 
--- an array of which each count is that rounded down or one more, and room for an array
-pub record NumberReady (r c : ℕ) (places low n : List ℕ) : Type 0 where
-  pub lows : Lows r c places low
+-- an accepted table of up to four by four
+pub record SmallTable (r c d : ℕ) (g : List ℕ) : Type 0 where
+  pub table : IsTable r c d g
+  pub small : Small r c
+
+-- an array of which each count is that rounded down or one more
+pub record NumberReady (r c : ℕ) (low n : List ℕ) : Type 0 where
   pub len : length n ≡ r * c
   pub least : (p : ℕ) → p < r * c → get_or low p 0 ≤ get_or n p 0
   pub most : (p : ℕ) → p < r * c → get_or n p 0 ≤ get_or low p 0 + 1
 
-pub record ArrayReady (r c : ℕ) (places low counts : List ℕ) : Type 0 where
-  pub lows : Lows r c places low
-  pub room : r * c ≤ length counts
-
--- the first number from `from` on whose array lies between the bounds; `end` or more where there is none below it
-pub record SearchReady (r c : ℕ) (places low high : List ℕ) (end : ℕ) : Type 0 where
-  pub lows : Lows r c places low
-  pub room : Room low high
-  pub end_small : end ≤ 65536
-
+-- whether the array with a number lies between the bounds
 abbrev pub passes : ℕ → ℕ → List ℕ → List ℕ → ℕ → Bool
 passes r c low high x = entries_between (entry_places r c) (numbered r c low x) low high
 
+-- x is the first number from `from` on that passes, below `end`; and that none below it does
 pub record FirstFrom (test : ℕ → Bool) (from end x : ℕ) : Type 0 where
   pub least : from ≤ x
+  pub below : x < end
   pub skipped : (y : ℕ) → from ≤ y → y < x → test y ≡ false
-  pub passes : x < end → test x ≡ true
+  pub passes : test x ≡ true
+
+pub record NoneFrom (test : ℕ → Bool) (from end : ℕ) : Type 0 where
+  pub skipped : (y : ℕ) → from ≤ y → y < end → test y ≡ false
 
 -- an accepted table of up to four by four, a controlled rounding of it, and a buffer with room
 pub record NextReady (r c d : ℕ) (g n counts : List ℕ) : Type 0 where

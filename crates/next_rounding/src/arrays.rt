@@ -1,41 +1,92 @@
 // Arrays by number: each count is that rounded down, or one more where the binary digit of its cell is 1; the first cell in the order has the highest digit.
-ghost use Rattle.std.specs.Prelude.{◌≡◌, ◌+◌, ◌/◌, ◌%◌, ◌^◌};
+ghost use Rattle.std.specs.Prelude.{◌≡◌, ◌+◌, ◌*◌, ◌/◌, ◌%◌, ◌^◌, ◌≤◌, length, MatchOption};
 ghost use Rattle.base.specs.Buffers.{written};
-ghost use Rattle.next_rounding.specs.Clauses.{Small, Places, CountReady, NumberReady, number_in, ArrayReady, numbered};
+ghost use Rattle.table.specs.Table.{entry_places};
+ghost use Rattle.is_rounding.specs.Clauses.{Bounds};
+ghost use Rattle.next_rounding.specs.Clauses.{Small, Places, SmallTable, IsNumbering, CountReady, NumberReady, number_in, numbered, passes, NoneFrom, FirstFrom};
 
 use cell_order::{nth_column, nth_row};
+use is_rounding::EntryBounds;
+use table::Table;
+
+// What the arrays of a table of up to four by four are numbered by: the places of its cells, in the order in which cells are compared, and the bounds of its
+// entries.
+#[derive(Drop)]
+pub struct Numbering {
+    rows: usize,
+    columns: usize,
+    places: [usize; 16],
+    bounds: EntryBounds,
+    ghost is: { IsNumbering rows columns places bounds.low bounds.high },
+}
+
+impl Numbering {
+    pub fn of(t: Table, cells: &[u32]) -> Numbering
+        requires { SmallTable t.rows t.columns t.denominator cells.now }
+        ensures rows { result.rows ≡ t.rows }
+        ensures columns { result.columns ≡ t.columns }
+        ensures bounds { Bounds (entry_places t.rows t.columns) t.denominator cells.now result.bounds.low result.bounds.high }
+    {
+        Numbering {
+            rows: t.rows,
+            columns: t.columns,
+            places: places(t.rows, t.columns),
+            bounds: EntryBounds::of(cells, t.rows, t.columns, t.denominator),
+        }
+    }
+
+    // The number of an array.
+    pub fn number(&self, array: &[u16]) -> u32
+        requires { NumberReady self.now.rows self.now.columns self.now.bounds.low array.now }
+        ensures { result ≡ number_in self.now.rows self.now.columns self.now.bounds.low array.now }
+    {
+        let mut x: u32 = 0;
+        for p in &self.places[..self.rows * self.columns] {
+            x = 2 * x + (u32::from(array[*p]) - self.bounds.low[*p]);
+        }
+        x
+    }
+
+    // Writes the array with a number.
+    pub fn write_array(&self, x: u32, counts: &mut [u16])
+        requires { self.now.rows * self.now.columns ≤ length counts.old }
+        ensures { counts.new ≡ written (numbered self.now.rows self.now.columns self.now.bounds.low x) counts.old }
+    {
+        let cells = self.rows * self.columns;
+        for (i, p) in self.places[..cells].iter().enumerate() {
+            counts[*p] = count(self.bounds.low[*p], x, cells - 1 - i);
+        }
+    }
+
+    // The first number from `from` on whose array lies between the bounds.
+    pub fn first_from(&self, from: u32) -> Option<u32>
+        ensures { let test = passes self.now.rows self.now.columns self.now.bounds.low self.now.bounds.high in
+            let end = 2 ^ (self.now.rows * self.now.columns) in
+            MatchOption result (NoneFrom test from end) (FirstFrom test from end) }
+    {
+        let cells = self.rows * self.columns;
+        let end = 1u32 << (cells as u32);
+        let mut counts = [0u16; 16];
+        for x in from..end {
+            self.write_array(x, &mut counts);
+            if self.bounds.hold(&counts[..cells], self.rows, self.columns) {
+                return Some(x);
+            }
+        }
+        None
+    }
+}
 
 // The places of the cells of a table, in the order in which cells are compared.
-pub fn places(rows: usize, columns: usize) -> [usize; 16]
+fn places(rows: usize, columns: usize) -> [usize; 16]
     requires { Small rows columns }
     ensures { Places rows columns result }
 {
-    let cells = rows * columns;
     let mut places = [0usize; 16];
-    for i in 0..cells {
+    for i in 0..rows * columns {
         places[i] = nth_row(rows, columns, i) * columns + nth_column(rows, columns, i);
     }
     places
-}
-
-// The number of an array.
-pub fn number(
-    array: &[u16],
-    rows: usize,
-    columns: usize,
-    places: &[usize; 16],
-    low: &[u32; 169],
-) -> u32
-    requires { NumberReady rows columns places.now low.now array.now }
-    ensures { result ≡ number_in rows columns low.now array.now }
-{
-    let cells = rows * columns;
-    let mut x: u32 = 0;
-    for i in 0..cells {
-        let p = places[i];
-        x = 2 * x + (u32::from(array[p]) - low[p]);
-    }
-    x
 }
 
 // A count rounded down, with a digit of a number added, counted from the lowest.
@@ -44,23 +95,4 @@ fn count(low: u32, x: u32, place: usize) -> u16
     ensures { result ≡ low + x / 2 ^ place % 2 }
 {
     (low + (x >> (place as u32)) % 2) as u16
-}
-
-// Writes the array with a number.
-pub fn write_array(
-    x: u32,
-    rows: usize,
-    columns: usize,
-    places: &[usize; 16],
-    low: &[u32; 169],
-    counts: &mut [u16],
-)
-    requires { ArrayReady rows columns places.now low.now counts.old }
-    ensures { counts.new ≡ written (numbered rows columns low.now x) counts.old }
-{
-    let cells = rows * columns;
-    for i in 0..cells {
-        let p = places[i];
-        counts[p] = count(low[p], x, cells - 1 - i);
-    }
 }

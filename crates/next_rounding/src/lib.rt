@@ -4,38 +4,12 @@
 ghost use Rattle.std.specs.Prelude.{◌≡◌, List, ℕ, None};
 ghost use Rattle.table.specs.Check.{table_refusal};
 ghost use Rattle.next_rounding.specs.Next.{Follows, next_rounding};
-ghost use Rattle.next_rounding.specs.Clauses.{passes, SearchReady, FirstFrom, NextReady, Found};
+ghost use Rattle.next_rounding.specs.Clauses.{NextReady, Found};
 
-use crate::arrays::{number, places, write_array};
-use is_rounding::EntryBounds;
+use crate::arrays::Numbering;
 use table::Table;
 
 mod arrays;
-
-// The first number from `from` on whose array lies between the bounds; `end` or more where there is none below it.
-fn first_from(
-    from: u32,
-    end: u32,
-    rows: usize,
-    columns: usize,
-    places: &[usize; 16],
-    bounds: &EntryBounds,
-) -> u32
-    requires { SearchReady rows columns places.now bounds.now.low bounds.now.high end }
-    ensures { FirstFrom (passes rows columns bounds.now.low bounds.now.high) from end result }
-{
-    let cells = rows * columns;
-    let mut counts = [0u16; 16];
-    let mut x = from;
-    while x < end {
-        write_array(x, rows, columns, places, &bounds.low, &mut counts);
-        if bounds.hold(&counts[..cells], rows, columns) {
-            return x;
-        }
-        x = x + 1;
-    }
-    x
-}
 
 // Writes the controlled rounding after one of an accepted table, and returns true; false where there is none.
 pub fn write_next(t: Table, cells: &[u32], array: &[u16], counts: &mut [u16]) -> bool
@@ -43,18 +17,15 @@ pub fn write_next(t: Table, cells: &[u32], array: &[u16], counts: &mut [u16]) ->
     ensures { Found (next_rounding t.rows t.columns t.denominator cells.now array.now)
         counts.old result counts.new }
 {
-    let rows = t.rows;
-    let columns = t.columns;
-    let bounds = EntryBounds::of(cells, rows, columns, t.denominator);
-    let order = places(rows, columns);
-    let given = number(array, rows, columns, &order, &bounds.low);
-    let end = 1u32 << ((rows * columns) as u32);
-    let x = first_from(given + 1, end, rows, columns, &order, &bounds);
-    if x < end {
-        write_array(x, rows, columns, &order, &bounds.low, counts);
-        return true;
+    let numbering = Numbering::of(t, cells);
+    let given = numbering.number(array);
+    match numbering.first_from(given + 1) {
+        Some(x) => {
+            numbering.write_array(x, counts);
+            true
+        }
+        None => false,
     }
-    false
 }
 
 // What the search of the definition finds follows: of every accepted table, whatever its size, and every array.

@@ -1,7 +1,5 @@
-use mathlib.Core.Path.{◌≡◌}
-use Prim.Native.Nat.{◌≤◌, ◌*◌}
 use Rattle.next_rounding.proofs.Loops.{PlacesTo}
 use Rattle.next_rounding.proofs.arrays.places.Given as goal
 
 abbrev pub invariant-loop-i : goal.invariant-loop-i
-invariant-loop-i l = (l.i ≤ l.cells) × ((l.cells ≡ l.rows * l.columns) × ((l.cells ≤ 16) × PlacesTo l.rows l.columns l.places l.i))
+invariant-loop-i l = PlacesTo l.rows l.columns l.places l.i
