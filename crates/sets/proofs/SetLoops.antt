@@ -5,7 +5,8 @@ use Prim.Native.Nat.{ℕ, zero, suc, ◌+◌, ◌≤◌, ◌<◌, min}
 use native.Mathlib.Decide.{ℕ_discrete}
 use native.Mathlib.Omega.{arith}
 use borrow.Author.Count.{below_more}
-use lib.ListN.{get_or}
+use lib.ListN.{get_or, take, drop}
+use lib.Seq.{get_or-take, get_or-drop}
 use Rattle.sets.specs.Clauses.{on, has, Some, Without, Rest, With, Join, Via, Picked, UnionOf}
 use Rattle.sets.proofs.Indicators.{ind_same, ind_other}
 use Rattle.sets.proofs.Members.{on_le, on_zero}
@@ -17,11 +18,11 @@ pub record Part (sets : List ℕ) (x left r : ℕ) : Type 0 where
   pub all : (p q : ℕ) → on x p + has sets p q ≤ 1 + on r q + on left p
   pub from : (q : ℕ) → on r q ≡ 1 → Via sets x q
 
-pub part_none : {sets : List ℕ} {x : ℕ} → x < 8192 → Part sets x x 0
-part_none {sets} {x} h = record {
-  small = h;
-  sub = λ p. omega arith;
-  all = λ p q. omega (arith, on_le (get_or sets p 0) q);
+pub part_none : {sets : List ℕ} {x left : ℕ} → left ≡ x → x < 8192 → Part sets x left 0
+part_none {sets} {x} {left} e h = record {
+  small = omega arith;
+  sub = λ p. rw e (omega arith);
+  all = λ p q. rw e (omega (arith, on_le (get_or sets p 0) q));
   from = λ q e. absurd (omega (arith, on_zero q));
 }
 
@@ -59,9 +60,6 @@ pub record Left (sets : List ℕ) (x q left : ℕ) : Type 0 where
   pub sub : (p : ℕ) → on left p ≤ on x p
   pub via : Via sets left q
 
-pub left_all : {sets : List ℕ} {x q : ℕ} → x < 8192 → Via sets x q → Left sets x q x
-left_all h v = record { small = h; sub = λ p. omega arith; via = v }
-
 pub left_found : {sets : List ℕ} {x q left p b : ℕ} → Left sets x q left → Some left p → b ≡ has sets p q → b ≡ 1 → Picked sets x q p
 left_found {x = x} {p = p} t s e h = record { below = s.below; member = omega (arith, t.sub p, s.is, on_le x p); linked = omega arith }
 
@@ -92,14 +90,18 @@ pub record Upto (numbers : List ℕ) (k j r : ℕ) : Type 0 where
 pub upto_none : {numbers : List ℕ} {k : ℕ} → Upto numbers k 0 0
 upto_none = record { low = λ q h. absurd (omega arith); high = λ q h. on_zero q }
 
-pub upto_skip : {numbers : List ℕ} {k j r : ℕ} → Upto numbers k j r → get_or numbers (k + j) 0 ≤ 0 → Upto numbers k (j + 1) r
-upto_skip {numbers} {k} {j} {r} u z = record {
+-- a number of the part that begins at place k
+pub part_at : (numbers : List ℕ) (k n j : ℕ) → j < n → get_or (take n (drop k numbers)) j 0 ≡ get_or numbers (k + j) 0
+part_at numbers k n j l = get_or-take n (drop k numbers) j 0 l ∙ get_or-drop k numbers j 0
+
+pub upto_skip : {numbers : List ℕ} {k j r x : ℕ} → Upto numbers k j r → x ≡ get_or numbers (k + j) 0 → x ≤ 0 → Upto numbers k (j + 1) r
+upto_skip {numbers} {k} {j} {r} u e z = record {
   low = below_more (λ (q : ℕ). on r q ≡ min (get_or numbers (k + q) 0) 1) j u.low (omega (arith, u.high j (omega arith)));
   high = λ q h. u.high q (omega arith);
 }
 
-pub upto_with : {numbers : List ℕ} {k j r r' : ℕ} → Upto numbers k j r → 0 < get_or numbers (k + j) 0 → With r j r' → Upto numbers k (j + 1) r'
-upto_with {numbers} {k} {j} {r} {r'} u z w = record {
+pub upto_with : {numbers : List ℕ} {k j r r' x : ℕ} → Upto numbers k j r → x ≡ get_or numbers (k + j) 0 → 0 < x → With r j r' → Upto numbers k (j + 1) r'
+upto_with {numbers} {k} {j} {r} {r'} u e z w = record {
   low = below_more (λ (q : ℕ). on r' q ≡ min (get_or numbers (k + q) 0) 1) j
       (λ q h. omega (arith, u.low q h, w.is q, ind_other q j (λ e. omega arith)))
       (omega (arith, u.high j (omega arith), w.is j, ind_same j));

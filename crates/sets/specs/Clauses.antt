@@ -1,5 +1,5 @@
 -- Sets of indices below 13 as numbers: i is a member where binary digit i is 1. Assumes nothing.
-use Rattle.std.specs.Prelude.{◌≡◌, Bool, true, false, List, ℕ, ◌+◌, ◌/◌, ◌%◌, ◌^◌, ◌<◌, ◌≤◌, min, max, eqb, get_or}
+use Rattle.std.specs.Prelude.{◌≡◌, Bool, true, false, List, ℕ, ◌+◌, ◌/◌, ◌%◌, ◌^◌, ◌<◌, ◌≤◌, min, max, eqb, get_or, Option, MatchOption}
 
 -- a test as a number
 abbrev pub num : Bool → ℕ
@@ -53,6 +53,10 @@ pub record Without (x i r : ℕ) : Type 0 where
 pub record Rest (x r : ℕ) : Type 0 where
   pub less : r < x
   pub is : (i : ℕ) → Some x i → Without x i r
+
+-- a step through the members of x: none where x is empty, and else the first, with y left
+abbrev pub Next : ℕ → Option ℕ → ℕ → Type 0
+Next x r y = MatchOption r (x ≡ 0) (λ i. Some x i × Rest x y)
 
 -- r is x with the new member i
 pub record With (x i r : ℕ) : Type 0 where
