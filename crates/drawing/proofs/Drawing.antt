@@ -19,12 +19,11 @@ use Rattle.refusals.proofs.Dues.{due_first, due_second}
 use Rattle.form.specs.declared.Sizes.{Sizes}
 use Rattle.weighted_arrays.specs.Plan.{Weighted, array_at, weights_before, Belongs}
 use Rattle.form.specs.Form.{decode}
-use Rattle.reading.specs.Clauses.{HasCounts, Sized}
+use Rattle.reading.specs.Clauses.{Sized}
 use Rattle.opening.specs.Open.{open_tests, open_refusal, open_answer}
 use Rattle.drawing.specs.Draw.{draw_refusal, drawn_array}
-use Rattle.drawing.specs.Clauses.{Drawing, Drawable}
 use Rattle.weighted_arrays.specs.Clauses.{weight_at}
-use Rattle.reading.proofs.Sizing.{arrays_are, denominator_is, has_counts}
+use Rattle.reading.proofs.Sizing.{arrays_are, denominator_is}
 use Rattle.weighted_arrays.proofs.Belonging.{array_for_lem}
 use Rattle.opening.proofs.Opening.{is_open, is_refused, opened_sized}
 use Rattle.opening.proofs.Opens.{weights_add_up}
@@ -44,35 +43,33 @@ module _ {l : List Weighted} {d k left : ℕ} (p : Left l d k left) {w : ℕ} (e
   pub left_found : k < length l → left < w → Belongs l d k
   left_found i h = record { there = i; before = omega (arith, p.is); with = omega (arith, p.is, sum_more (weight_at l) k) }
 
-module _ {s : Sizes} {b : List ℕ} {d : ℕ} (h : Drawable s b d) where
+module _ {s : Sizes} {b : List ℕ} (z : Sized s b) where
   abbrev arrays : List Weighted
   arrays = (decode b).arrays
 
   pub array_there : {k : ℕ} → k < s.arrays → k < length arrays
-  array_there i = omega (arith, arrays_are h.sized)
+  array_there i = omega (arith, arrays_are z)
 
-  pub left_over : {k left : ℕ} → Left arrays d k left → k ≤ s.arrays → s.arrays ≤ k → Belongs arrays d s.arrays
-  left_over {k} p i j =
-      let e : k ≡ length arrays = omega (arith, arrays_are h.sized) in
-      let q : weights_before arrays k ≡ weights_before arrays (length arrays) = ap (weights_before arrays) e in
-      absurd (omega (arith, p.is, h.below))
+  pub array_counted : {d k : ℕ} → Belongs arrays d k → k < s.arrays
+  array_counted p = omega (arith, p.there, arrays_are z)
 
--- writing the array of a draw number of an opened plan
-module _ {s : Sizes} {b : List ℕ} {d : ℕ} {counts : List ℕ} (h : Drawing s b d counts) where
+-- an opened plan, whose weights add up to D
+module _ (s : Sizes) (b : List ℕ) (o : open_answer b ≡ Ok s) where
   sized : Sized s b
-  sized = opened_sized b s h.is_open
+  sized = opened_sized b s o
 
-  pub draws_from : Drawable s b d
-  draws_from = record { sized = sized; below = omega (arith, h.below, denominator_is sized, weights_add_up b (is_open b s h.is_open).opens, sum_places (λ a. a.weight) (decode b).arrays (record { weight = 0; counts = [] })) }
+  pub left_over : (d k left : ℕ) → d < s.denominator → Left (decode b).arrays d k left → s.arrays ≤ k → k ≤ s.arrays → Belongs (decode b).arrays d s.arrays
+  left_over d k left h p i j =
+      let all : d < weights_before (decode b).arrays (length (decode b).arrays) = omega (arith, denominator_is sized, weights_add_up b (is_open b s o).opens, sum_places (λ a. a.weight) (decode b).arrays (record { weight = 0; counts = [] })) in
+      let e : k ≡ length (decode b).arrays = omega (arith, arrays_are sized) in
+      let q : weights_before (decode b).arrays k ≡ weights_before (decode b).arrays (length (decode b).arrays) = ap (weights_before (decode b).arrays) e in
+      absurd (omega (arith, p.is))
 
-  module _ {k : ℕ} (p : Belongs (decode b).arrays d k) where
-    pub draws_counts : HasCounts b k counts
-    draws_counts = has_counts sized (omega (arith, p.there, arrays_are sized)) h.room
-
-    pub array_written : (old new : List ℕ) → new ≡ written (array_at (decode b).arrays k).counts old → new ≡ written (drawn_array b d) old
-    array_written old new q =
-        let more : d < weights_before (decode b).arrays (suc k) = rw (add-one k) at p.with in
-        q ∙ ap (λ (l : List ℕ). written l old) (sym (array_for_lem (decode b).arrays d k p.there p.before more))
+pub array_written : (b : List ℕ) (d k : ℕ) → Belongs (decode b).arrays d k → (old new : List ℕ) → new ≡ written (array_at (decode b).arrays k).counts old
+    → new ≡ written (drawn_array b d) old
+array_written b d k p old new q =
+    let more : d < weights_before (decode b).arrays (suc k) = rw (add-one k) at p.with in
+    q ∙ ap (λ (l : List ℕ). written l old) (sym (array_for_lem (decode b).arrays d k p.there p.before more))
 
 -- what is due of a draw with a buffer of m counts
 pub refused_first : (b : List ℕ) (d m : ℕ) (x : Refusal) → open_answer b ≡ Err x → draw_refusal b d m ≡ Some x

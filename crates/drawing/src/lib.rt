@@ -1,43 +1,42 @@
 // Drawing from a stored plan: the array that belongs to a draw number.
 #![tactic(auto)]
 
-ghost use Rattle.std.specs.Prelude.{◌≡◌, map, length};
+ghost use Rattle.std.specs.Prelude.{◌≡◌, ◌<◌, map, length};
 ghost use Rattle.base.specs.Buffers.{written};
 ghost use Rattle.refusals.specs.Due.{Answers};
 ghost use Rattle.form.specs.Form.{decode};
 ghost use Rattle.drawing.specs.Draw.{draw_refusal, drawn_array};
-ghost use Rattle.drawing.specs.Clauses.{Drawing, Drawable};
+ghost use Rattle.drawing.specs.Clauses.{Drawing};
 ghost use Rattle.weighted_arrays.specs.Plan.{Belongs};
 ghost use Rattle.drawing.specs.Examples.{draw_cases, drawn, said};
 
-use form::Sizes;
-use opening::open::open;
-use reading::{read_array, weight};
+use opening::open::{OpenPlan, open_plan};
 use refusals::Refusal;
 
 // The place, counted from 0, of the array that a draw number belongs to.
-fn array_of(plan: &[u8], s: Sizes, number: u32) -> usize
-    requires { Drawable s plan.now number }
-    ensures { Belongs (decode plan.now).arrays number result }
+fn array_of(plan: &OpenPlan, number: u32) -> usize
+    requires { number < plan.now.plan.sizes.denominator }
+    ensures { Belongs (decode plan.now.plan.bytes.now).arrays number result }
 {
+    let arrays = plan.plan.sizes.arrays;
     let mut left = number;
-    for k in 0..s.arrays {
-        let w = weight(plan, k);
+    for k in 0..arrays {
+        let w = plan.plan.weight(k);
         if left < w {
             return k;
         }
-        left = left - w;
+        left -= w;
     }
-    s.arrays
+    arrays
 }
 
 // Writes the array of a draw number of an opened plan.
-pub fn write_array(plan: &[u8], s: Sizes, number: u32, counts: &mut [u16])
-    requires { Drawing s plan.now number counts.old }
-    ensures { counts.new ≡ written (drawn_array plan.now number) counts.old }
+pub fn write_array(plan: &OpenPlan, number: u32, counts: &mut [u16])
+    requires { Drawing plan.now.plan.sizes number counts.old }
+    ensures { counts.new ≡ written (drawn_array plan.now.plan.bytes.now number) counts.old }
 {
-    let k = array_of(plan, s, number);
-    read_array(plan, k, counts);
+    let k = array_of(plan, number);
+    plan.plan.read_array(k, counts);
 }
 
 // Writes the array of a draw number, or returns the lowest refusal that applies.
@@ -45,7 +44,8 @@ pub fn draw(plan: &[u8], number: u32, counts: &mut [u16]) -> Result<(), Refusal>
     ensures { Answers (draw_refusal plan.now number (length counts.old))
         (written (drawn_array plan.now number) counts.old) counts.old result counts.new }
 {
-    let s = open(plan)?;
+    let opened = open_plan(plan)?;
+    let s = opened.plan.sizes;
     let denominator = s.denominator;
     let cells = s.rows * s.columns;
     if counts.len() < cells {
@@ -54,7 +54,7 @@ pub fn draw(plan: &[u8], number: u32, counts: &mut [u16]) -> Result<(), Refusal>
     if denominator <= number {
         return Err(Refusal::Number);
     }
-    write_array(plan, s, number, counts);
+    write_array(&opened, number, counts);
     Ok(())
 }
 

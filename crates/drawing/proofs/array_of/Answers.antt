@@ -1,13 +1,9 @@
-use Rattle.reading.proofs.Sizing.{has_array}
 use Rattle.drawing.proofs.Drawing.{left_none, left_more, left_found, array_there, left_over}
 use borrow.Author.Rules.{rules}
 use Rattle.drawing.proofs.array_of.Goals as goal
 
 pub loop-k-init : goal.loop-k-init
 loop-k-init c = search (rules, left_none)
-
-pub weight-w-requires : goal.weight-w-requires
-weight-w-requires c = search (rules, has_array)
 
 pub returns-then-left-w : goal.returns-then-left-w
 returns-then-left-w c = search (rules, left_found, array_there)
