@@ -1,23 +1,19 @@
 -- Sums of arrays times a factor, array by array, and what they are compared with. Assumes nothing.
-use mathlib.Core.Path.{◌≡◌, sym, ap, ap₂, ◌∙◌}
-use mathlib.Core.Bool.{true, false}
+use mathlib.Core.Path.{◌≡◌, ap, ap₂, ◌∙◌}
 use mathlib.Core.List.{List}
 use Prim.Native.Nat.{ℕ, ◌+◌, ◌*◌, ◌<◌, ◌≤◌}
 use native.Mathlib.Nat.{mul-le-mul, mul-le-mul_right, add-mul, one-mul}
 use native.Mathlib.Decide.{dec_lt}
 use native.Mathlib.Omega.{arith}
 use lib.ListN.{length, get_or, set, replicate, length-replicate, get_or-replicate}
-use lib.Dec.{eqb}
 use mir.Val.{Fits}
 use mir.Syntax.{w64}
-use borrow.Author.Tests.{eq-eqb, ne_eqb}
 use Rattle.base.specs.Lists.{sum_to}
 use Rattle.base.specs.Clauses.{Filled}
 use Rattle.base.proofs.SumLoops.{sum_more}
-use Rattle.base.proofs.Every.{Passed, passed_none, passed_more, passed_all, every_not}
 use Rattle.base.proofs.Filling.{filled_none, front_more, filled_to}
 use Rattle.weighted_arrays.specs.Plan.{Weighted, array_at}
-use Rattle.weighted_arrays.specs.Clauses.{max_product, Addable, Increased, cells_met, SumsTo}
+use Rattle.weighted_arrays.specs.Clauses.{max_product, Addable, Increased, SumsTo}
 
 pub product_small : {w x : ℕ} → w < 4294967296 → x < 65536 → w * x ≤ max_product
 product_small {w} {x} h l = let a : w ≤ 4294967295 = omega arith in let b : x ≤ 65535 = omega arith in omega (arith, mul-le-mul a b)
@@ -97,23 +93,3 @@ module _ {f : ℕ → ℕ} {l : List Weighted} {n k : ℕ} {sums : List ℕ} (p 
 
   pub sums_more : {factor : ℕ} {new : List ℕ} → Increased factor counts sums new → factor ≡ f k → counts ≡ (array_at l k).counts → SumsTo f l n (k + 1) new
   sums_more i q c = sums_more_at i q (λ j h. ap (λ (m : List ℕ). get_or m j 0) c)
-
--- the first i cells are their sums
-pub record CellsMetTo (cells sums : List ℕ) (i : ℕ) : Type 0 where
-  pub met : Passed (λ j. eqb (get_or sums j 0) (get_or cells j 0)) i
-
-pub cells_none_met : (cells sums : List ℕ) → CellsMetTo cells sums 0
-cells_none_met cells sums = record { met = passed_none _ }
-
--- a cell that is its sum, and one that is not
-module _ (cells sums : List ℕ) {i x : ℕ} (e : x ≡ get_or cells i 0) where
-  pub cell_unmet : i < length cells → (get_or sums i 0 ≡ x → ⊥) → false ≡ cells_met cells sums
-  unfolding cells_met
-  cell_unmet l h = every_not (λ j. eqb (get_or sums j 0) (get_or cells j 0)) (length cells) i l (ne_eqb _ _ (λ q. h (q ∙ sym e)))
-
-  pub cell_met : CellsMetTo cells sums i → get_or sums i 0 ≡ x → CellsMetTo cells sums (i + 1)
-  cell_met p h = record { met = passed_more p.met (eq-eqb _ _ (h ∙ e)) }
-
-pub cells_all_met : {cells sums : List ℕ} {i : ℕ} → CellsMetTo cells sums i → length cells ≤ i → true ≡ cells_met cells sums
-unfolding cells_met
-cells_all_met p h = passed_all p.met h

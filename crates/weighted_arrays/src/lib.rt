@@ -5,15 +5,14 @@ ghost use Rattle.std.specs.Prelude.{◌≡◌, ◌≤◌, length};
 ghost use Rattle.table.specs.Table.{max_cells};
 ghost use Rattle.weighted_arrays.specs.Clauses.{Addable, Increased, cells_met};
 
-
 // Adds an array times a factor to some sums, one a cell.
 pub fn add_weighted(factor: u32, counts: &[u16], sums: &mut [u64; 144])
     requires { Addable counts.now sums.old }
     ensures { Increased factor counts.now sums.old sums.new }
 {
     let f = u64::from(factor);
-    for i in 0..counts.len() {
-        sums[i] = sums[i] + f * u64::from(counts[i]);
+    for (i, count) in counts.iter().enumerate() {
+        sums[i] += f * u64::from(*count);
     }
 }
 
@@ -22,12 +21,5 @@ pub fn cells_met(cells: &[u32], sums: &[u64; 144]) -> bool
     requires { length cells.now ≤ max_cells }
     ensures { result ≡ cells_met cells.now sums.now }
 {
-    let mut i = 0;
-    while i < cells.len() {
-        if sums[i] != u64::from(cells[i]) {
-            return false;
-        }
-        i += 1;
-    }
-    true
+    cells.iter().zip(sums).all(|(x, s)| *s == u64::from(*x))
 }
