@@ -1,13 +1,12 @@
 // Which entry set a weight, as four numbers that are written to a lent buffer.
 #![tactic(auto)]
 
-ghost use Rattle.std.specs.Prelude.{◌≡◌, List, [], ◌∷◌, ◌++◌, map, ℕ, ◌≤◌, length};
+ghost use Rattle.std.specs.Prelude.{◌≡◌, List, map, ℕ, ◌≤◌, length};
 ghost use Rattle.base.specs.Buffers.{written};
 ghost use Rattle.refusals.specs.Answer.{answer_number};
 ghost use Rattle.refusals.specs.Due.{answer_of, Answers};
 ghost use Rattle.reasons.specs.Call.{reason_answer};
 ghost use Rattle.reason_numbers.specs.Numbers.{direction_number, entry_numbers, reason_numbers, reply_number, reply_refusal};
-ghost use Rattle.reason_numbers.specs.Clauses.{room_refusal};
 ghost use Rattle.reason_numbers.specs.Examples.{calls, replied, said};
 
 use base::write::write_four;
@@ -25,16 +24,15 @@ fn direction_number(direction: Direction) -> u32
     }
 }
 
-// Writes the numbers of an entry and of the direction in which it was rounded.
-fn write_entry(entry: Entry, direction: u32, reply: &mut [u32])
-    requires { 4 ≤ length reply.old }
-    ensures { reply.new ≡ written (entry_numbers entry ++ (direction ∷ [])) reply.old }
+// The numbers of an entry: its kind, its row and its column, 0 where the kind has none.
+fn entry_numbers(entry: Entry) -> [u32; 3]
+    ensures { result ≡ entry_numbers entry }
 {
     match entry {
-        Entry::Cell(i, j) => write_four(1, i, j, direction, reply),
-        Entry::RowTotal(i) => write_four(2, i, 0, direction, reply),
-        Entry::ColumnTotal(j) => write_four(3, 0, j, direction, reply),
-        Entry::GrandTotal => write_four(4, 0, 0, direction, reply),
+        Entry::Cell(i, j) => [1, i, j],
+        Entry::RowTotal(i) => [2, i, 0],
+        Entry::ColumnTotal(j) => [3, 0, j],
+        Entry::GrandTotal => [4, 0, 0],
     }
 }
 
@@ -55,7 +53,8 @@ pub fn write_reason(
     if reply.len() < 4 {
         return Err(Refusal::Buffer);
     }
-    write_entry(found.entry, direction_number(found.direction), reply);
+    let [kind, row, column] = entry_numbers(found.entry);
+    write_four(kind, row, column, direction_number(found.direction), reply);
     Ok(())
 }
 
