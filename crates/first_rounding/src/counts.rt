@@ -4,6 +4,7 @@ ghost use Rattle.base.specs.Lists.{tabulate};
 ghost use Rattle.table.specs.Clauses.{max_entry};
 ghost use Rattle.first_rounding.specs.Clauses.{QuotientsReady, Quotients, taken_off, TotalsReady, Overwritten, CountsReady, count_at};
 
+use crate::line::Line;
 use table::whole::divide;
 
 // The entries over w, rounded down and up, and their gaps.
@@ -33,15 +34,14 @@ fn count(low: u64, bit: u8) -> u64
     low + u64::from(bit)
 }
 
-// The counts of twelve totals, from place `start` on, `step` apart: the bit is taken off the entry rounded up.
-fn totals(high: &[u64; 169], bits: &[u8; 169], n: &mut [u64; 169], start: usize, step: usize)
-    requires { TotalsReady high.now bits.now n.old start step }
-    ensures { Overwritten (taken_off high.now bits.now) start step n.old n.new 12 }
+// The counts of the first twelve places of a line, which are totals: the bit is taken off the entry rounded up.
+fn totals(high: &[u64; 169], bits: &[u8; 169], n: &mut [u64; 169], line: Line)
+    requires { TotalsReady high.now bits.now n.old line.start line.step }
+    ensures { Overwritten (taken_off high.now bits.now) line.start line.step n.old n.new 12 }
 {
-    let mut at = start;
-    for i in 0..12usize {
+    for i in 0..12 {
+        let at = line.place(i);
         n[at] = high[at] - u64::from(bits[at]);
-        at = at + step;
     }
 }
 
@@ -53,6 +53,14 @@ pub fn counts(low: &[u64; 169], high: &[u64; 169], bits: &[u8; 169], n: &mut [u6
     for k in 0..169 {
         n[k] = count(low[k], bits[k]);
     }
-    totals(high, bits, n, 12, 13);
-    totals(high, bits, n, 156, 1);
+    let rows = Line {
+        start: 12,
+        step: 13,
+    };
+    let columns = Line {
+        start: 156,
+        step: 1,
+    };
+    totals(high, bits, n, rows);
+    totals(high, bits, n, columns);
 }

@@ -10,6 +10,7 @@ use crate::counts::{counts, quotients};
 use crate::needs::needs;
 
 mod counts;
+mod line;
 mod needs;
 
 // The entries n of the first controlled rounding over w of the table with entries e, and these entries over w, rounded down.
@@ -18,8 +19,8 @@ pub fn round_grid(e: &[u64; 169], w: u64, low: &mut [u64; 169], n: &mut [u64; 16
     ensures low { low.new ≡ rounded_down w e.now }
     ensures array { RoundedGrid w e.now n.new }
 {
-    let mut high = [0u64; 169];
-    let mut cap = [0u8; 169];
+    let mut high = [0; 169];
+    let mut cap = [0; 169];
     quotients(e, w, low, &mut high, &mut cap);
     let rows = needs(low, &high, 13, 1);
     let cols = needs(low, &high, 1, 13);

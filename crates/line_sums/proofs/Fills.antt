@@ -3,7 +3,7 @@ use mathlib.Core.Path.{◌≡◌, refl, sym, ap, ◌∙◌}
 use mathlib.Core.List.{List}
 use Rattle.std.proofs.Common.{Option, Some, None, IsSome, subst}
 use Prim.Native.Nat.{ℕ, ◌+◌, ◌-◌, ◌*◌, ◌≤◌, ◌<◌, min}
-use native.Mathlib.Nat.{zero-add, add-mul, le_antisymm, le_of_mul-le-mul_left}
+use native.Mathlib.Nat.{add-mul, le_antisymm, le_of_mul-le-mul_left}
 use native.Mathlib.Decide.{ℕ_discrete, dec_lt}
 use native.Mathlib.Omega.{arith}
 use borrow.Author.Tests.{le-leb, lt-leb}
@@ -12,7 +12,7 @@ use lib.ListN.{length, get_or, set, length-set}
 use lib.Seq.{get_or-set_same, get_or-set_other}
 use Rattle.base.specs.Lists.{sum_to}
 use Rattle.base.proofs.Sums.{sum_ext, sum_add, sum_mul, sum_swap, sum_term}
-use Rattle.sets.specs.Clauses.{num, ind, on, Without, Nonzero}
+use Rattle.sets.specs.Clauses.{num, ind, on, Without}
 use Rattle.paths.specs.Clauses.{Stuck, OneMore, Augmented}
 use Rattle.paths.specs.declared.FreePlaces.{FreePlaces}
 use Rattle.line_sums.specs.Clauses.{Board, board_of, Places, row_sum, col_sum, Feasible, Room, RowsFilled, Lacking, LacksOne}
@@ -54,9 +54,6 @@ feasible_filled f s =
         col = λ q hq. x.col q hq ∙ ap (λ (n : ℕ). s.w * n) (sym (f.cols q hq));
       };
     }
-
-pub lacking_all : {lack : List ℕ} {columns : ℕ} → Nonzero lack 0 columns → Lacking lack columns
-lacking_all z = record { is = λ q h. simp zero-add at (z.is q h) }
 
 -- one search, with the columns that lack something
 module _ {up down one lack : List ℕ} {columns : ℕ} (m : Places up down one) (len : length lack ≡ 13) (l : Lacking lack columns) where

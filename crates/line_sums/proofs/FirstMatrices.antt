@@ -4,33 +4,15 @@ use mathlib.Core.List.{List}
 use Prim.Native.Nat.{ℕ, zero, suc, ◌+◌, ◌*◌, ◌/◌, ◌%◌, ◌≤◌, ◌<◌}
 use native.Mathlib.Nat.{mul-le-mul_left, mul-zero}
 use native.Mathlib.Omega.{arith}
-use lib.ListN.{get_or, set, length-set, replicate, get_or-replicate}
+use lib.ListN.{get_or, replicate, get_or-replicate}
 use Rattle.base.specs.Lists.{sum_to}
 use Rattle.base.proofs.Sums.{sum_ext, sum_zero}
 use Rattle.line_sums.specs.Clauses.{at, Caps, Matrix, Solvable, nth_cell, FirstMatrix, Board, board_of, start, Places, row_sum, col_sum, Flow, Feasible, RowsFilled, First, FreeOf, BytesOf}
 use Rattle.cell_order.specs.Order.{nth_row, nth_column}
 use Rattle.sets.specs.Clauses.{on, has}
-use Rattle.base.proofs.Lists.{each_more}
 use Rattle.sets.proofs.Members.{on_zero}
 use Rattle.line_sums.proofs.Fills.{no_lack}
 use Rattle.line_sums.proofs.Cells.{row_inside, column_inside}
-
--- the bytes with one more of a row
-pub bytes_next : {down one b : List ℕ} {row q v : ℕ} → row < 13 → q < 13 → BytesOf down one (row * 13 + q) b → v ≡ has down q row + has one row q
-    → BytesOf down one (row * 13 + (q + 1)) (set b (row * 13 + q) v)
-bytes_next {down} {one} {b} {row} {q} {v} hr hq a e = record {
-  len = length-set b (row * 13 + q) v ∙ a.len;
-  is = λ i h. each_more (λ i x. x ≡ has down (i % 13) (i / 13) + has one (i / 13) (i % 13)) b (row * 13 + q) v (omega (arith, a.len)) a.is here i (omega arith);
-}
-  where
-    here : v ≡ has down ((row * 13 + q) % 13) ((row * 13 + q) / 13) + has one ((row * 13 + q) / 13) ((row * 13 + q) % 13)
-    here =
-        let i : (row * 13 + q) / 13 ≡ row = omega arith in
-        let j : (row * 13 + q) % 13 ≡ q = omega arith in
-        rw (i, j) e
-
-pub bytes_as : {down one b : List ℕ} {m n : ℕ} → BytesOf down one m b → n ≡ m → BytesOf down one n b
-bytes_as a e = rw e a
 
 -- the board's free places are those under the cap, and the others are 0
 record Under (cap : List ℕ) (g : Board) : Type 0 where

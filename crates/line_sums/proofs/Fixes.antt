@@ -12,7 +12,7 @@ use Rattle.cell_order.specs.Order.{nth_row, nth_column, rank}
 use Rattle.cell_order.proofs.Ranks.{rank_row, rank_column}
 use Rattle.sets.specs.Clauses.{ind, on, has, Single, With, Without}
 use Rattle.line_sums.specs.Clauses.{nth_cell, Board, board_of, Places, row_sum, col_sum, Flow, Allowed, Fixed, First, PlaceFixed}
-use Rattle.paths.specs.Clauses.{Stuck, Augmented, same_place, row_ones, col_ones, NotBoth, OneMore}
+use Rattle.paths.specs.Clauses.{Stuck, Augmented, same_place, row_ones, col_ones, OneMore}
 use Rattle.base.proofs.Sums.{sum_ext, sum_add}
 use Rattle.sets.proofs.Indicators.{ind_same, ind_eq}
 use Rattle.paths.proofs.Paths.{place_swap, place_other_row, place_other_col, place_in_row, gain_row, gain_col, taken, put}
@@ -61,9 +61,6 @@ which x p y q = go (ℕ_discrete x p) (ℕ_discrete y q)
     go (yes e) (no n) = other (place_other_col x p y q n)
     go (no n) d = other (place_other_row x p y q n)
 
-pub apart_places : {up down one : List ℕ} → Places up down one → NotBoth up down
-apart_places m = record { up_len = m.up_len; down_len = m.down_len; one = λ p q hp hq. omega (arith, m.single p q hp hq) }
-
 -- one more in a row and a column
 module _ {up down one up' down' : List ℕ} {row column : ℕ} (m : Places up down one) (v : OneMore up down up' down' row column) where
   pub places_more : Places up' down' one
@@ -108,22 +105,6 @@ module _ {up down one : List ℕ} {i j : ℕ} (m : Places up down one) (hi : i <
         least = λ x f. omega (arith, m.single i j hi hj);
       };
     }
-
-  -- a place that is fixed
-  pub fix_none : {u d : ℕ} → u ≡ has up i j → (u ≡ 1 → ⊥) → d ≡ has down j i → (d ≡ 1 → ⊥) → PlaceFixed (made up down one) (made up down one) i j
-  fix_none eu nu ed nd =
-      let z : has up i j + has down j i ≡ 0 = omega (arith, m.single i j hi hj) in record {
-        places = m;
-        fixed = record {
-          rows = λ p. refl;
-          cols = λ q. refl;
-          here = z;
-          others = λ p q hp hq n. refl;
-          fewer = λ p q. omega arith;
-          kept = λ p q hp hq n. refl;
-          least = λ x f. omega (arith, f.fixed i j hi hj z);
-        };
-      }
 
   -- a place that is free and 1
   module _ {r : ℕ} (e : has down j i ≡ 1) (w : Without (get_or down j 0) i r) where

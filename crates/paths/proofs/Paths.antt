@@ -138,9 +138,6 @@ module _ {up₀ down₀ rows cols : List ℕ} {start end last : ℕ} {up down : 
   pub col_via : Via up (get_or rows i 0) q
   col_via = via_as a.via (a.low_row i a.via.p q (omega arith) a.via.picked.member)
 
-  pub rows_below : get_or rows i 0 < 8192
-  rows_below = a.way.levels.row_small i a.way.at_most
-
   pub col_free : {p : ℕ} → Picked up (get_or rows i 0) q p → has down q p ≡ 0
   col_free {p} c = omega (arith, a.way.free p q, a.way.apart.one p q c.below a.below, c.linked)
 
@@ -165,18 +162,6 @@ module _ {up₀ down₀ rows cols : List ℕ} {start end last : ℕ} {up down : 
 
 module _ {up₀ down₀ rows cols : List ℕ} {start end last : ℕ} {up down : List ℕ} {p i : ℕ} (a : AtRow up₀ down₀ rows cols start end last up down p i) where
   module _ (pos : 0 < i) where
-    back : Via down₀ (get_or cols (i - 1) 0) p
-    back = a.way.levels.row_from (i - 1) p (omega (arith, a.way.at_most)) (let e : i - 1 + 1 ≡ i = omega arith in rw e a.member)
-
-    pub row_via : Via down (get_or cols (i - 1) 0) p
-    row_via = via_as back (a.way.low_col (i - 1) p back.p (omega arith) back.picked.member)
-
-    pub cols_below : get_or cols (i - 1) 0 < 8192
-    cols_below = a.way.levels.col_small (i - 1) (omega (arith, a.way.at_most))
-
-    pub row_free : {q : ℕ} → Picked down (get_or cols (i - 1) 0) p q → has up p q ≡ 0
-    row_free {q} c = omega (arith, a.way.free p q, a.way.apart.one p q a.below c.below, c.linked)
-
     pub lowered : {q : ℕ} {up' down' : List ℕ} → Picked down (get_or cols (i - 1) 0) p q → Flipped down up down' up' q p → AtCol up₀ down₀ rows cols start end last up' down' q (i - 1)
     lowered {q} {up'} {down'} c m = record {
       way = record {

@@ -40,9 +40,6 @@ one_le {start} {front} h o j = go (ℕ_discrete j start)
     go (yes e) = rw e (omega (arith, on_all start h, on_le front start))
     go (no n) = omega (arith, o.is j, ind_other j start n)
 
-pub meet_sub : {a b r : ℕ} → Meet a b r → (j : ℕ) → on r j ≤ on b j
-meet_sub m j = omega (arith, m.is j)
-
 module _ (up down rows cols : List ℕ) (ends : ℕ) {start front rows_left : ℕ} (h : start < 13) (rl : length rows ≡ 14) (cl : length cols ≡ 14) (o : Single start front) (m : Minus 8191 front rows_left) where
   here : get_or (set rows 0 front) 0 0 ≡ front
   here = get_or-set_same rows 0 front 0 (omega arith)
