@@ -7,8 +7,6 @@ use Prim.Native.Nat.{ℕ, ◌-◌, ◌*◌, ◌<◌, ◌≤◌}
 use native.Mathlib.Omega.{arith}
 use lib.ListN.{length, set}
 use lib.Dec.{ltb}
-use mir.Val.{Fits}
-use mir.Syntax.{w64}
 use borrow.Author.Tests.{lt-ltb, le-ltb}
 use Rattle.base.specs.Buffers.{written}
 use Rattle.base.proofs.Buffers.{one_set}
@@ -21,31 +19,28 @@ use Rattle.table.proofs.Checks.{too_small, inside, too_large}
 use Rattle.form.specs.declared.Sizes.{Sizes}
 use Rattle.weighted_arrays.specs.Plan.{cell_count, array_at}
 use Rattle.form.specs.Form.{decode}
-use Rattle.reading.specs.Clauses.{Sized, HasArray, HasCounts}
-use Rattle.reading.proofs.Sizing.{arrays_are, cells_are, has_array, has_counts}
+use Rattle.reading.specs.Clauses.{Sized}
+use Rattle.reading.proofs.Sizing.{arrays_are, cells_are}
 use Rattle.opening.specs.Open.{open_tests, open_refusal, open_answer}
-use Rattle.opening.proofs.Opening.{is_open, is_refused, opened_sized, sizes_product}
+use Rattle.opening.proofs.Opening.{is_open, is_refused, opened_sized}
 use Rattle.plan_parts.specs.Array.{Buffers, buffers, array_refusal, array_into}
 
-pub counts_product : (b : List ℕ) {o : Result Sizes Refusal} → o ≡ open_answer b → {s : Sizes} → o ≡ Ok s → Fits w64 (s.rows * s.columns)
-counts_product b is {s} e = sizes_product b s (sym is ∙ e)
-
-module _ (b : List ℕ) (k : ℕ) (weights counts : List ℕ) {o : Result Sizes Refusal} (is : o ≡ open_answer b) where
+module _ (b : List ℕ) (k : ℕ) (weights counts : List ℕ) where
   abbrev Tells : Result ⊤ Refusal → Buffers → Type 0
   Tells a new = Answers (array_refusal b k (length weights) (length counts)) (array_into b k (buffers weights counts)) (buffers weights counts) a new
 
-  pub array_refused : {x : Refusal} → o ≡ Err x → Tells (Err x) (buffers weights counts)
+  pub array_refused : {x : Refusal} → open_answer b ≡ Err x → Tells (Err x) (buffers weights counts)
   unfolding array_refusal open_refusal
-  array_refused {x} e = refused_so (due_first (open_tests b) _ x (is_refused b x (sym is ∙ e)))
+  array_refused {x} e = refused_so (due_first (open_tests b) _ x (is_refused b x e))
 
-  module _ {s : Sizes} (e : o ≡ Ok s) where
+  module _ {s : Sizes} (e : open_answer b ≡ Ok s) where
     sized : Sized s b
-    sized = opened_sized b s (sym is ∙ e)
+    sized = opened_sized b s e
 
     after_opening : array_refusal b k (length weights) (length counts)
         ≡ due (refuse Array (not (up_to (length (decode b).arrays) k)) ∷ refuse Buffer (ltb (length weights) 1 || ltb (length counts) (cell_count (decode b))) ∷ [])
     unfolding array_refusal open_refusal
-    after_opening = due_second (open_tests b) _ (is_open b s (sym is ∙ e)).opens
+    after_opening = due_second (open_tests b) _ (is_open b s e).opens
 
     no_array : up_to (length (decode b).arrays) k ≡ false → Tells (Err Array) (buffers weights counts)
     unfolding due
@@ -67,18 +62,12 @@ module _ (b : List ℕ) (k : ℕ) (weights counts : List ℕ) {o : Result Sizes 
       unfolding due
       weight_short h = refused_so (after_number ∙ simp (lt-ltb (length weights) 1 h))
 
-      pub has_weight : HasArray b (k - 1)
-      has_weight = has_array sized (omega arith)
-
       module _ (one : 1 ≤ length weights) where
         pub counts_short : length counts < s.rows * s.columns → Tells (Err Buffer) (buffers weights counts)
         unfolding due
         counts_short h = refused_so (after_number ∙ simp (le-ltb (length weights) 1 one, lt-ltb (length counts) (cell_count (decode b)) (omega (arith, cells_are sized))))
 
         module _ (room : s.rows * s.columns ≤ length counts) where
-          pub counts_ready : HasCounts b (k - 1) counts
-          counts_ready = has_counts sized (omega arith) room
-
           pub array_told : {v : ℕ} {new : List ℕ} → v ≡ (array_at (decode b).arrays (k - 1)).weight → new ≡ written (array_at (decode b).arrays (k - 1)).counts counts
               → Tells (Ok tt) (buffers (set weights 0 v) new)
           unfolding due

@@ -3,17 +3,22 @@ ghost use Rattle.std.specs.Prelude.{length};
 ghost use Rattle.refusals.specs.Due.{Answers};
 ghost use Rattle.plan_parts.specs.Array.{buffers, array_refusal, array_into};
 
-use opening::open::open;
-use reading::{read_array, weight};
+use opening::open::open_plan;
 use refusals::Refusal;
 
 // Writes the weight and the counts of array `number`, from 1 on, or returns the first refusal that applies.
-pub fn array(plan: &[u8], number: u32, weights: &mut [u32], counts: &mut [u16]) -> Result<(), Refusal>
+pub fn array(
+    plan: &[u8],
+    number: u32,
+    weights: &mut [u32],
+    counts: &mut [u16],
+) -> Result<(), Refusal>
     ensures { Answers (array_refusal plan.now number (length weights.old) (length counts.old))
         (array_into plan.now number (buffers weights.old counts.old))
         (buffers weights.old counts.old) result (buffers weights.new counts.new) }
 {
-    let s = open(plan)?;
+    let opened = open_plan(plan)?;
+    let s = opened.plan.sizes;
     let k = number as usize;
     let cells = s.rows * s.columns;
     if k < 1 {
@@ -28,7 +33,7 @@ pub fn array(plan: &[u8], number: u32, weights: &mut [u32], counts: &mut [u16]) 
     if counts.len() < cells {
         return Err(Refusal::Buffer);
     }
-    weights[0] = weight(plan, k - 1);
-    read_array(plan, k - 1, counts);
+    weights[0] = opened.plan.weight(k - 1);
+    opened.plan.read_array(k - 1, counts);
     Ok(())
 }

@@ -13,8 +13,7 @@ ghost use Rattle.plan_parts.specs.Examples.{size_cases, told_sizes, cell_cases, 
 
 use base::write::write_four;
 use form::Sizes;
-use opening::open::open;
-use reading::read_table;
+use opening::open::open_plan;
 use refusals::Refusal;
 
 pub mod array;
@@ -38,11 +37,11 @@ pub fn sizes(plan: &[u8], numbers: &mut [u32]) -> Result<(), Refusal>
     ensures { Answers (part_refusal plan.now 4 (length numbers.old))
         (written (size_numbers plan.now) numbers.old) numbers.old result numbers.new }
 {
-    let s = open(plan)?;
+    let opened = open_plan(plan)?;
     if numbers.len() < 4 {
         return Err(Refusal::Buffer);
     }
-    write_sizes(s, numbers);
+    write_sizes(opened.plan.sizes, numbers);
     Ok(())
 }
 
@@ -51,11 +50,12 @@ pub fn cells(plan: &[u8], cells: &mut [u32]) -> Result<(), Refusal>
     ensures { Answers (part_refusal plan.now (cell_count (decode plan.now)) (length cells.old))
         (written (decode plan.now).cells cells.old) cells.old result cells.new }
 {
-    let s = open(plan)?;
+    let opened = open_plan(plan)?;
+    let s = opened.plan.sizes;
     if cells.len() < s.rows * s.columns {
         return Err(Refusal::Buffer);
     }
-    read_table(plan, cells);
+    opened.plan.read_table(cells);
     Ok(())
 }
 
