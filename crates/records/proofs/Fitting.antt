@@ -1,4 +1,5 @@
 -- Laws on the test of a record: the numbers taken of each array, the count and the tally by them, and where a campaign can stand. Assumes nothing.
+use Rattle.std.specs.Prelude.{Ok}
 use mathlib.Core.Path.{◌≡◌, refl, sym, ap, ◌∙◌}
 use mathlib.Core.Bool.{◌&&◌}
 use mathlib.Core.List.{List, []}
@@ -30,12 +31,13 @@ use Rattle.reading.specs.Clauses.{HasArray, Sized}
 use Rattle.reading.proofs.Sizing.{arrays_are, denominator_is, sized_arrays, sized_denominator}
 use Rattle.weighted_arrays.specs.Clauses.{weight_at, factored}
 use Rattle.weighted_arrays.proofs.Belonging.{array_for_lem}
+use Rattle.opening.specs.Open.{open_answer}
 use Rattle.opening.proofs.Opening.{is_open, opened_sized}
 use Rattle.opening.proofs.Opens.{weights_add_up}
 use Rattle.records.specs.Record.{record_of, taken_sum, within, fits}
 use Rattle.bits.specs.Bits.{bit_of, spare_clear}
 use Rattle.bits.specs.Clauses.{bits_set, Span, Spared}
-use Rattle.records.specs.Clauses.{taken_of, taken_numbers, Numbered, Tallied, tally_fits, Fitted}
+use Rattle.records.specs.Clauses.{taken_of, taken_numbers, Numbered, tally_fits, Fitted}
 use Rattle.bits.proofs.Bits.{bit_le}
 
 -- a shorter sum
@@ -82,12 +84,12 @@ pub along_none : (b bits : List ℕ) → Along b bits (replicate 170 0) 0 0
 unfolding sum_to
 along_none b bits = record { begins = refl; counted = filled_none _ 0 _ }
 
-module _ {b bits taken : List ℕ} {k at : ℕ} (p : Along b bits taken k at) {s : Sizes} (m : Numbered s b bits) where
+module _ {b bits taken : List ℕ} {k at : ℕ} (p : Along b bits taken k at) {s : Sizes} (z : Sized s b) (m : Numbered b bits) where
   abbrev l : List Weighted
   l = (decode b).arrays
 
   few : length l ≤ length (replicate {A = ℕ} 170 0)
-  few = omega (arith, length-replicate {A = ℕ} 170 0, arrays_few m.sized)
+  few = omega (arith, length-replicate {A = ℕ} 170 0, arrays_few z)
 
   module _ {n w : ℕ} (i : n ≡ length (decode b).arrays) (h : k < n) (e : w ≡ weight_at (decode b).arrays k) where
     up_to : at + w ≤ weights_before l (length l)
@@ -152,9 +154,9 @@ sum_first (suc n) xs h =
     omega (arith, more, sum_first n xs (omega arith))
 
 -- the tests of a record
-module _ {s : Sizes} {b bits tally : List ℕ} (f : Fitted s b bits tally) where
+module _ {s : Sizes} (b : List ℕ) {bits tally : List ℕ} (o : open_answer b ≡ Ok s) (f : Fitted s bits tally) where
   sized : Sized s b
-  sized = opened_sized b s f.is_open
+  sized = opened_sized b s o
 
   abbrev arrays : List Weighted
   arrays = (decode b).arrays
@@ -165,17 +167,13 @@ module _ {s : Sizes} {b bits tally : List ℕ} (f : Fitted s b bits tally) where
   weights : weights_before arrays (length arrays) ≡ s.denominator
   weights =
       sym (sum_places (λ a. a.weight) arrays (record { weight = 0; counts = [] }))
-      ∙ weights_add_up b (is_open b s f.is_open).opens ∙ denominator_is sized
+      ∙ weights_add_up b (is_open b s o).opens ∙ denominator_is sized
 
-  pub numbered : Numbered s b bits
+  pub numbered : Numbered b bits
   numbered = record {
-    sized = sized;
     few = omega (arith, weights, sized_denominator sized);
     room = omega (arith, weights, f.bits_room);
   }
-
-  pub tallied : Tallied s b tally
-  tallied = record { sized = sized; room = f.tally_room }
 
   -- with the numbers taken of each array
   module _ {taken : List ℕ} (t : taken ≡ taken_numbers (decode b).arrays bits) where

@@ -21,27 +21,24 @@ use Rattle.base.proofs.Buffers.{written_at, written_length}
 use Rattle.form.specs.declared.Sizes.{Sizes}
 use Rattle.weighted_arrays.specs.Plan.{array_at, cell_count}
 use Rattle.form.specs.Form.{decode}
-use Rattle.reading.specs.Clauses.{HasCounts, HasTable, Sized}
+use Rattle.reading.specs.Clauses.{Sized}
 use Rattle.reading.proofs.Readings.{counts_length, cells_length}
-use Rattle.reading.proofs.Sizing.{arrays_are, cells_are, sized_few, has_counts, has_table}
+use Rattle.reading.proofs.Sizing.{arrays_are, cells_are, sized_few}
 use Rattle.weighted_arrays.specs.Clauses.{max_product, Addable, Increased, factored, SumsTo}
 use Rattle.weighted_arrays.proofs.Weighting.{sums_none, sums_addable, sums_more}
 use Rattle.reading.proofs.Scratch.{counts_read}
-use Rattle.records.specs.Clauses.{ArrayAddable, ArraysAdded, Compared, tally_met, Tallied, tally_fits}
+use Rattle.records.specs.Clauses.{ArrayAddable, ArraysAdded, Compared, tally_met, tally_fits}
 use Rattle.records.proofs.Fitting.{arrays_few, eqb_sym}
 
 -- an array's counts, as they are read into a scratch and added to the sums
-pub scratch_asked : {s : Sizes} {b : List ℕ} {k : ℕ} {sums : List ℕ} → ArrayAddable s b k sums → HasCounts b k (replicate 144 0)
-scratch_asked a = has_counts a.sized a.there (omega (arith, length-replicate {A = ℕ} 144 0, sized_few a.sized))
-
-module _ {s : Sizes} {b : List ℕ} {k : ℕ} {sums : List ℕ} (a : ArrayAddable s b k sums) {scratch : List ℕ}
+module _ {s : Sizes} {b : List ℕ} (z : Sized s b) {k : ℕ} {sums : List ℕ} (a : ArrayAddable s b k sums) {scratch : List ℕ}
     (e : scratch ≡ written (array_at (decode b).arrays k).counts (replicate 144 0)) where
   pub read_addable : Addable (take (s.rows * s.columns) scratch) sums
-  read_addable = rw (counts_read a.sized a.there e) a.addable
+  read_addable = rw (counts_read z a.there e) a.addable
 
   pub read_added : {factor : ℕ} {new : List ℕ} → Increased factor (take (s.rows * s.columns) scratch) sums new
       → Increased factor (array_at (decode b).arrays k).counts sums new
-  read_added i = rw (counts_read a.sized a.there e) at i
+  read_added i = rw (counts_read z a.there e) at i
 
 -- array by array, each with its factor
 module _ {s : Sizes} {b : List ℕ} (z : Sized s b) where
@@ -55,7 +52,6 @@ module _ {s : Sizes} {b : List ℕ} (z : Sized s b) where
 
       pub array_addable : ArrayAddable s b k sums
       array_addable = record {
-        sized = z;
         there = omega (arith, arrays_are z);
         addable = sums_addable p many (omega (arith, cells_are z, sized_few z)) (omega (arith, arrays_few z));
       }
@@ -115,31 +111,28 @@ module _ {t x y : ℕ} (h : t < 65536) (f : Fits w32 y) (e : x ≡ y) where
   sum_fits l = record { fits = omega (arith, product) }
 
 -- the table in a scratch, and the tally up to it
-module _ {s : Sizes} {b tally : List ℕ} (t : Tallied s b tally) where
+module _ {s : Sizes} {b : List ℕ} (z : Sized s b) (tally : List ℕ) (room : s.rows * s.columns ≤ length tally) where
   abbrev n : ℕ
   n = s.rows * s.columns
 
-  pub table_asked : HasTable b (replicate 144 0)
-  table_asked = has_table t.sized (omega (arith, sized_few t.sized, length-replicate {A = ℕ} 144 0))
-
   pub tally_length : {m : ℕ} → m ≤ s.rows * s.columns → m ≡ length (take m tally)
-  tally_length h = sym (length-take-le _ tally (omega (arith, t.room)))
+  tally_length h = sym (length-take-le _ tally (omega (arith, room)))
 
   module _ {f : ℕ → ℕ} {sums scratch : List ℕ} (a : SumsTo f (decode b).arrays (cell_count (decode b)) (length (decode b).arrays) sums)
       (e : scratch ≡ written (decode b).cells (replicate 144 0)) where
     long : length (decode b).cells ≡ n
-    long = cells_length b ∙ cells_are t.sized
+    long = cells_length b ∙ cells_are z
 
     small : (i : ℕ) → i < n → get_or sums i 0 ≤ 170 * max_product
-    small i h = omega (arith, a.small i (omega (arith, cells_are t.sized)), mul-le-mul_right max_product (arrays_few t.sized))
+    small i h = omega (arith, a.small i (omega (arith, cells_are z)), mul-le-mul_right max_product (arrays_few z))
 
     zeros : length (replicate {A = ℕ} 144 0) ≡ 144
     zeros = length-replicate {A = ℕ} 144 0
 
     pub compared : {m : ℕ} → m ≤ s.rows * s.columns → Compared scratch sums (take m tally)
     compared h = record {
-      few = omega (arith, tally_length h, sized_few t.sized);
-      cells_length = ap length e ∙ written_length (decode b).cells (replicate 144 0) long (omega (arith, sized_few t.sized, zeros)) ∙ zeros;
+      few = omega (arith, tally_length h, sized_few z);
+      cells_length = ap length e ∙ written_length (decode b).cells (replicate 144 0) long (omega (arith, sized_few z, zeros)) ∙ zeros;
       sums_length = a.len;
       small = λ i l. small i (omega (arith, tally_length h));
     }
@@ -148,8 +141,8 @@ module _ {s : Sizes} {b tally : List ℕ} (t : Tallied s b tally) where
       → (x : Bool) → x ≡ tally_met rounds scratch sums (take (s.rows * s.columns) tally) → x ≡ tally_fits rounds (decode b) taken tally
   unfolding tally_met tally_fits
   tally_is rounds taken {sums} {scratch} a e x q =
-      q ∙ ap (λ (m : ℕ). every m (test rounds scratch sums (take n tally))) (sym (tally_length (omega arith)) ∙ sym (cells_are t.sized))
+      q ∙ ap (λ (m : ℕ). every m (test rounds scratch sums (take n tally))) (sym (tally_length (omega arith)) ∙ sym (cells_are z))
       ∙ every_ext (cell_count (decode b)) _ _ (λ i l.
-      let h : i < n = omega (arith, cells_are t.sized) in
+      let h : i < n = omega (arith, cells_are z) in
       rw (get_or-take n tally i 0 h, a.is i l, e, written_at (decode b).cells (replicate 144 0) (long a e) i h)
       (eqb_sym (rounds * get_or (decode b).cells i 0 + factored (λ j. get_or taken j 0) (decode b).arrays (length (decode b).arrays) i) (get_or tally i 0)))

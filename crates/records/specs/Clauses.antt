@@ -1,14 +1,12 @@
 -- What the functions that test a record require, and the parts of the definitions of Record that they are held to. Assumes nothing.
-use Rattle.std.specs.Prelude.{◌≡◌, List, Bool, ℕ, ◌+◌, ◌*◌, ◌<◌, ◌≤◌, length, get_or, replicate, eqb, Ok}
+use Rattle.std.specs.Prelude.{◌≡◌, List, Bool, ℕ, ◌+◌, ◌*◌, ◌<◌, ◌≤◌, length, get_or, replicate, eqb}
 use Rattle.base.specs.Lists.{tabulate, every}
 use Rattle.base.specs.Buffers.{written}
 use Rattle.table.specs.Table.{max_cells, max_arrays, max_denominator}
 use Rattle.form.specs.declared.Sizes.{Sizes}
 use Rattle.weighted_arrays.specs.Plan.{Weighted, Plan, array_at, cell_count, weights_before}
 use Rattle.form.specs.Form.{decode}
-use Rattle.opening.specs.Open.{open_answer}
 use Rattle.weighted_arrays.specs.Clauses.{max_product, Addable, weight_at, factored, SumsTo}
-use Rattle.reading.specs.Clauses.{Sized}
 use Rattle.bits.specs.Bits.{bit_bytes}
 use Rattle.bits.specs.Clauses.{bits_set}
 
@@ -21,14 +19,12 @@ unfoldable pub taken_numbers : List Weighted → List ℕ → List ℕ
 taken_numbers l bits = written (tabulate (length l) (taken_of l bits)) (replicate max_arrays 0)
 
 -- the bits are enough for the numbers of all arrays of a plan
-pub record Numbered (s : Sizes) (b bits : List ℕ) : Type 0 where
-  pub sized : Sized s b
+pub record Numbered (b bits : List ℕ) : Type 0 where
   pub few : weights_before (decode b).arrays (length (decode b).arrays) ≤ max_denominator
   pub room : weights_before (decode b).arrays (length (decode b).arrays) ≤ 8 * length bits
 
 -- a plan has an array k, counted from 0, which can be added to some sums
 pub record ArrayAddable (s : Sizes) (b : List ℕ) (k : ℕ) (sums : List ℕ) : Type 0 where
-  pub sized : Sized s b
   pub there : k < s.arrays
   pub addable : Addable (array_at (decode b).arrays k).counts sums
 
@@ -36,9 +32,8 @@ pub record ArrayAddable (s : Sizes) (b : List ℕ) (k : ℕ) (sums : List ℕ) :
 abbrev pub ArraysAdded : List ℕ → List ℕ → List ℕ → Type 0
 ArraysAdded b taken sums = SumsTo (λ j. get_or taken j 0) (decode b).arrays (cell_count (decode b)) (length (decode b).arrays) sums
 
--- an opened plan, with its sizes, and buffers not shorter than a record of it
-pub record Fitted (s : Sizes) (b bits tally : List ℕ) : Type 0 where
-  pub is_open : open_answer b ≡ Ok s
+-- buffers not shorter than a record of a plan of these sizes
+pub record Fitted (s : Sizes) (bits tally : List ℕ) : Type 0 where
   pub bits_room : bit_bytes s.denominator ≤ length bits
   pub tally_room : s.rows * s.columns ≤ length tally
 
@@ -52,11 +47,6 @@ pub record Compared (cells sums tally : List ℕ) : Type 0 where
 -- each number of a tally is rounds times its cell plus its sum
 unfoldable pub tally_met : ℕ → List ℕ → List ℕ → List ℕ → Bool
 tally_met rounds cells sums tally = every (length tally) (λ i. eqb (rounds * get_or cells i 0 + get_or sums i 0) (get_or tally i 0))
-
--- a plan with its sizes, and a tally not shorter than that of a record of it
-pub record Tallied (s : Sizes) (b tally : List ℕ) : Type 0 where
-  pub sized : Sized s b
-  pub room : s.rows * s.columns ≤ length tally
 
 -- the tally is rounds times the table plus the arrays, each times the number for it
 unfoldable pub tally_fits : ℕ → Plan → List ℕ → List ℕ → Bool

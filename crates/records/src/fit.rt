@@ -7,18 +7,18 @@ ghost use Rattle.records.specs.Clauses.{Numbered, taken_numbers, Fitted};
 use crate::tally::tally_fits;
 use crate::{MAX_ROUNDS, Record};
 use bits::{bits_set, spare_clear};
-use form::Sizes;
-use reading::weight;
+use opening::open::OpenPlan;
+use reading::LaidOut;
 
 // How many numbers of each array are taken.
-fn taken_numbers(plan: &[u8], s: Sizes, bits: &[u8]) -> [u32; 170]
-    requires { Numbered s plan.now bits.now }
-    ensures { result ≡ taken_numbers (decode plan.now).arrays bits.now }
+fn taken_numbers(plan: &LaidOut, bits: &[u8]) -> [u32; 170]
+    requires { Numbered plan.now.bytes.now bits.now }
+    ensures { result ≡ taken_numbers (decode plan.now.bytes.now).arrays bits.now }
 {
     let mut taken = [0u32; 170];
     let mut at = 0;
-    for k in 0..s.arrays {
-        let w = weight(plan, k) as usize;
+    for k in 0..plan.sizes.arrays {
+        let w = plan.weight(k) as usize;
         taken[k] = bits_set(bits, at, w);
         at += w;
     }
@@ -42,13 +42,14 @@ fn within(denominator: u32, taken: u32, rounds: u16) -> bool
 }
 
 // Whether the record fits the opened plan. The time is that of the D bits and of the counts of the K arrays.
-pub fn fits(plan: &[u8], s: Sizes, record: Record, bits: &[u8], tally: &[u64]) -> bool
-    requires { Fitted s plan.now bits.now tally.now }
-    ensures { result ≡ fits (decode plan.now) (record_of «record».taken «record».rounds bits.now tally.now) }
+pub fn fits(plan: &OpenPlan, record: Record, bits: &[u8], tally: &[u64]) -> bool
+    requires { Fitted plan.now.plan.sizes bits.now tally.now }
+    ensures { result ≡ fits (decode plan.now.plan.bytes.now) (record_of «record».taken «record».rounds bits.now tally.now) }
 {
-    let numbers = taken_numbers(plan, s, bits);
+    let s = plan.plan.sizes;
+    let numbers = taken_numbers(&plan.plan, bits);
     spare_clear(bits, s.denominator as usize)
         && all_taken(&numbers[..s.arrays]) == record.taken
         && within(s.denominator, record.taken, record.rounds)
-        && tally_fits(plan, s, record.rounds, &numbers, tally)
+        && tally_fits(&plan.plan, record.rounds, &numbers, tally)
 }

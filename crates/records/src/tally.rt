@@ -1,34 +1,31 @@
 // What the tally of a campaign record has to be.
-ghost use Rattle.std.specs.Prelude.{◌≡◌};
+ghost use Rattle.std.specs.Prelude.{◌≡◌, ◌*◌, ◌≤◌, length};
 ghost use Rattle.weighted_arrays.specs.Plan.{array_at};
 ghost use Rattle.form.specs.Form.{decode};
-ghost use Rattle.reading.specs.Clauses.{Sized};
 ghost use Rattle.weighted_arrays.specs.Clauses.{Increased};
-ghost use Rattle.records.specs.Clauses.{ArrayAddable, ArraysAdded, Compared, tally_met, Tallied, tally_fits};
+ghost use Rattle.records.specs.Clauses.{ArrayAddable, ArraysAdded, Compared, tally_met, tally_fits};
 
-use form::Sizes;
-use reading::{read_array, read_table};
+use reading::LaidOut;
 use weighted_arrays::add_weighted;
 
 // Adds array k, counted from 0, times a factor to some sums.
-fn add_array(plan: &[u8], s: Sizes, k: usize, factor: u32, sums: &mut [u64; 144])
-    requires { ArrayAddable s plan.now k sums.old }
-    ensures { Increased factor (array_at (decode plan.now).arrays k).counts sums.old sums.new }
+fn add_array(plan: &LaidOut, k: usize, factor: u32, sums: &mut [u64; 144])
+    requires { ArrayAddable plan.now.sizes plan.now.bytes.now k sums.old }
+    ensures { Increased factor (array_at (decode plan.now.bytes.now).arrays k).counts sums.old sums.new }
 {
-    let cells = s.rows * s.columns;
+    let cells = plan.sizes.rows * plan.sizes.columns;
     let mut counts = [0u16; 144];
-    read_array(plan, k, &mut counts);
+    plan.read_array(k, &mut counts);
     add_weighted(factor, &counts[..cells], sums);
 }
 
 // What this round adds to the tally: for each cell the counts of all arrays, each times how many of its numbers are taken, added up.
-fn tally_of(plan: &[u8], s: Sizes, taken: &[u32; 170]) -> [u64; 144]
-    requires { Sized s plan.now }
-    ensures { ArraysAdded plan.now taken.now result }
+fn tally_of(plan: &LaidOut, taken: &[u32; 170]) -> [u64; 144]
+    ensures { ArraysAdded plan.now.bytes.now taken.now result }
 {
     let mut sums = [0u64; 144];
-    for (k, factor) in taken[..s.arrays].iter().enumerate() {
-        add_array(plan, s, k, *factor, &mut sums);
+    for (k, factor) in taken[..plan.sizes.arrays].iter().enumerate() {
+        add_array(plan, k, *factor, &mut sums);
     }
     sums
 }
@@ -47,13 +44,13 @@ fn tally_met(rounds: u16, cells: &[u32; 144], sums: &[u64; 144], tally: &[u64]) 
 }
 
 // Whether the tally is rounds times the table plus the arrays of the numbers taken.
-pub fn tally_fits(plan: &[u8], s: Sizes, rounds: u16, taken: &[u32; 170], tally: &[u64]) -> bool
-    requires { Tallied s plan.now tally.now }
-    ensures { result ≡ tally_fits rounds (decode plan.now) taken.now tally.now }
+pub fn tally_fits(plan: &LaidOut, rounds: u16, taken: &[u32; 170], tally: &[u64]) -> bool
+    requires { plan.now.sizes.rows * plan.now.sizes.columns ≤ length tally.now }
+    ensures { result ≡ tally_fits rounds (decode plan.now.bytes.now) taken.now tally.now }
 {
-    let sums = tally_of(plan, s, taken);
+    let sums = tally_of(plan, taken);
     let mut table = [0u32; 144];
-    read_table(plan, &mut table);
-    let cells = s.rows * s.columns;
+    plan.read_table(&mut table);
+    let cells = plan.sizes.rows * plan.sizes.columns;
     tally_met(rounds, &table, &sums, &tally[..cells])
 }

@@ -1,7 +1,7 @@
 use native.Mathlib.Omega.{arith}
 use borrow.Author.Rules.{rules}
 use Rattle.std.proofs.lemmas.Bool.Decides.{nat_tests}
-use Rattle.records.proofs.Fitting.{spared, numbered, numbers_room, numbers_part, few_taken, tallied, fits_by}
+use Rattle.records.proofs.Fitting.{spared, numbered, numbers_room, numbers_part, few_taken, fits_by}
 use Rattle.records.proofs.fit.fits.Goals as goal
 
 pub taken_numbers-numbers-requires : goal.taken_numbers-numbers-requires
@@ -19,11 +19,8 @@ slice_bounds-all_taken-end c = search (rules, numbers_part)
 pub all_taken-requires : goal.all_taken-requires
 all_taken-requires c = search (rules, few_taken)
 
-pub tally_fits-requires : goal.tally_fits-requires
-tally_fits-requires c = search (rules, tallied)
-
 pub returns-then-within : goal.returns-then-within
-returns-then-within c = grind (arith, nat_tests, fits_by c.requires c.taken_numbers-numbers.ensures c.args.record.taken c.args.record.rounds)
+returns-then-within c = grind (arith, nat_tests, fits_by _ c.args.plan.now.opens c.requires c.taken_numbers-numbers.ensures c.args.record.taken c.args.record.rounds)
 
 pub returns-else-within : goal.returns-else-within
-returns-else-within c = grind (arith, nat_tests, fits_by c.requires c.taken_numbers-numbers.ensures c.args.record.taken c.args.record.rounds)
+returns-else-within c = grind (arith, nat_tests, fits_by _ c.args.plan.now.opens c.requires c.taken_numbers-numbers.ensures c.args.record.taken c.args.record.rounds)

@@ -11,11 +11,11 @@ pub loop-k-init : goal.loop-k-init
 loop-k-init c = search (rules, added_none)
 
 pub add_array-requires : goal.add_array-requires
-add_array-requires c = array_addable c.requires c.loop-k.invariant (part_end c.requires c.args.taken.now c.told-taken) c.loop-k-test.true
+add_array-requires c = array_addable c.args.plan.now.laid_out c.loop-k.invariant (part_end c.args.plan.now.laid_out c.args.taken.now c.told-taken) c.loop-k-test.true
 
 pub loop-k-preserved : goal.loop-k-preserved
 loop-k-preserved c =
-    added_more c.requires c.loop-k.invariant (part_end c.requires c.args.taken.now c.told-taken) c.loop-k-test.true (part_at c.requires c.args.taken.now c.told-taken c.loop-k-test.true) c.add_array.ensures
+    added_more c.args.plan.now.laid_out c.loop-k.invariant (part_end c.args.plan.now.laid_out c.args.taken.now c.told-taken) c.loop-k-test.true (part_at c.args.plan.now.laid_out c.args.taken.now c.told-taken c.loop-k-test.true) c.add_array.ensures
 
 pub returns : goal.returns
-returns c = added_all c.requires c.loop-k.invariant (part_end c.requires c.args.taken.now c.told-taken) c.loop-k.auto.k-end c.loop-k-test.false
+returns c = added_all c.args.plan.now.laid_out c.loop-k.invariant (part_end c.args.plan.now.laid_out c.args.taken.now c.told-taken) c.loop-k.auto.k-end c.loop-k-test.false

@@ -5,4 +5,4 @@ use Rattle.weighted_arrays.specs.Clauses.{SumsTo}
 use Rattle.records.proofs.tally.tally_of.Given as goal
 
 abbrev pub invariant-loop-k : goal.invariant-loop-k
-invariant-loop-k l = SumsTo (λ j. get_or l.taken j 0) (decode l.plan).arrays (cell_count (decode l.plan)) l.k l.sums
+invariant-loop-k l = SumsTo (λ j. get_or l.taken j 0) (decode l.plan.bytes.now).arrays (cell_count (decode l.plan.bytes.now)) l.k l.sums
