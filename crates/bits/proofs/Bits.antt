@@ -6,6 +6,8 @@ use Prim.Native.Nat.{ℕ, zero, suc, ◌+◌, ◌-◌, ◌*◌, ◌/◌, ◌%◌
 use native.Mathlib.Nat.{not-suc-le-zero, pow-suc, pow-succ', div-div-eq-div-mul, zero-div}
 use native.Mathlib.Decide.{ℕ_discrete}
 use native.Mathlib.Omega.{arith}
+use Rattle.std.specs.Int.{div_ceil}
+use Rattle.std.proofs.lemmas.Bool.Decides.{nat_tests}
 use lib.ListN.{length, get_or, set, replicate, length-replicate, get_or-replicate}
 use lib.Dec.{eqb, eqb-suc-suc, eqb-zero-suc, eqb-suc-zero}
 use lib.Seq.{get_or-set_same, get_or-set_other}
@@ -17,8 +19,8 @@ use lib.Pow.{pow_mono}
 use mir.Val.{Fits}
 use mir.Syntax.{w8, w32}
 use Rattle.base.proofs.Every.{sum_none}
-use Rattle.base.proofs.SumLoops.{Summed, summed_more, summed_all}
-use Rattle.bits.specs.Clauses.{bits_set, Span, Spared}
+use Rattle.base.proofs.SumLoops.{Summed, summed_more}
+use Rattle.bits.specs.Clauses.{bits_set}
 
 -- bit k of a number
 unfoldable bit : ℕ → ℕ → ℕ
@@ -106,15 +108,12 @@ unfolding bit_of bit
 byte_set b d h z = added_small (d % 8) 8 (get_or b (d / 8) 0) (omega arith) h z
 
 -- the code's power of 2 in a byte
-pub power : (d : ℕ) → 1 * 2 ^ (d % 8) % 256 ≡ 2 ^ (d % 8)
+power : (d : ℕ) → 1 * 2 ^ (d % 8) % 256 ≡ 2 ^ (d % 8)
 power d = let l : 2 ^ (d % 8) ≤ 2 ^ 7 = pow_mono {j = 7} (omega arith) in omega arith
 
 module _ (b : List ℕ) (d : ℕ) where
   pub set_fits : Fits w8 (get_or b (d / 8) 0) → bit_of b d ≡ 0 → Fits w8 (get_or b (d / 8) 0 + 1 * 2 ^ (d % 8) % 256)
   set_fits h z = record { fits = omega (arith, power d, byte_set b d (omega arith) z) }
-
-  pub set_is : set b (d / 8) (get_or b (d / 8) 0 + 1 * 2 ^ (d % 8) % 256) ≡ set b (d / 8) (get_or b (d / 8) 0 + 2 ^ (d % 8))
-  set_is = ap (λ (x : ℕ). set b (d / 8) (get_or b (d / 8) 0 + x)) (power d)
 
 -- s is how many of j bits are set
 abbrev pub Set : List ℕ → ℕ → ℕ → ℕ → Type 0
@@ -127,13 +126,12 @@ module _ (bits : List ℕ) (from : ℕ) {j s : ℕ} (p : Set bits from j s) wher
   pub set_fits_more : (x : ℕ) {n : ℕ} → x ≡ bit_of bits (from + j) → j < n → n ≤ 65535 → Fits w32 (s + x)
   set_fits_more x e h l = record { fits = omega (arith, p.small, bit_le bits (from + j)) }
 
-  pub set_all : {n : ℕ} → j ≤ n → n ≤ j → s ≡ bits_set bits from n
-  set_all h l = (summed_all p h l).0
-
 -- no spare bit is set just if none of them counts
 module _ (count : ℕ) (bits : List ℕ) where
-  pub spare_span : Spared count bits → Span count (8 * ((count + 7) / 8) - count) bits
-  spare_span h = let f = h.few in let r = h.room in record { begins = f; few = omega arith; room = omega arith }
+  bytes_of : div_ceil count 8 ≡ bit_bytes count
+  bytes_of = grind (arith, nat_tests)
 
-  pub spare_by : (x : ℕ) → x ≡ bits_set bits count (8 * ((count + 7) / 8) - count) → eqb x 0 ≡ spare_clear count bits
-  spare_by x e = ap (λ (n : ℕ). eqb n 0) e ∙ sym (sum_none (8 * bit_bytes count - count) (λ i. bit_of bits (count + i)))
+  pub spare_by : (x y : ℕ) → y ≡ div_ceil count 8 → x ≡ bits_set bits count (8 * y - count) → eqb x 0 ≡ spare_clear count bits
+  spare_by x y h e =
+      ap (λ (n : ℕ). eqb n 0) (e ∙ ap (λ (n : ℕ). bits_set bits count (8 * n - count)) (h ∙ bytes_of))
+      ∙ sym (sum_none (8 * bit_bytes count - count) (λ i. bit_of bits (count + i)))

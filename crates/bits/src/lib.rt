@@ -13,7 +13,7 @@ pub fn bit(bits: &[u8], d: usize) -> u32
     requires { d < 8 * length bits.now }
     ensures { result ≡ bit_of bits.now d }
 {
-    ((bits[d / 8] as u32) >> ((d % 8) as u32)) % 2
+    u32::from(bits[d / 8] >> (d % 8)) % 2
 }
 
 // How many of `count` bits from `from` on are set.
@@ -21,9 +21,9 @@ pub fn bits_set(bits: &[u8], from: usize, count: usize) -> u32
     requires { Span from count bits.now }
     ensures { result ≡ bits_set bits.now from count }
 {
-    let mut sum: u32 = 0;
+    let mut sum = 0;
     for j in 0..count {
-        sum = sum + bit(bits, from + j);
+        sum += bit(bits, from + j);
     }
     sum
 }
@@ -33,7 +33,7 @@ pub fn spare_clear(bits: &[u8], count: usize) -> bool
     requires { Spared count bits.now }
     ensures { result ≡ spare_clear count bits.now }
 {
-    let spare = 8 * ((count + 7) / 8) - count;
+    let spare = 8 * count.div_ceil(8) - count;
     bits_set(bits, count, spare) == 0
 }
 
@@ -42,7 +42,7 @@ pub fn set_bit(bits: &mut [u8], d: usize)
     requires { Unset d bits.old }
     ensures { bits.new ≡ set bits.old (d / 8) (get_or bits.old (d / 8) 0 + 2 ^ (d % 8)) }
 {
-    bits[d / 8] = bits[d / 8] + (1u8 << ((d % 8) as u32));
+    bits[d / 8] += 1 << (d % 8);
 }
 
 // Sets the first bytes to zero.
@@ -50,9 +50,7 @@ pub fn clear_bytes(bytes: &mut [u8], count: usize)
     requires { count ≤ length bytes.old }
     ensures { bytes.new ≡ written (replicate count 0) bytes.old }
 {
-    for i in 0..count {
-        bytes[i] = 0;
-    }
+    bytes[..count].fill(0);
 }
 
 // The literal cases are as stated: the bit of each number, how many bytes the bits of a denominator take, and which bits are spare.

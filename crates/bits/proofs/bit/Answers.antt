@@ -1,7 +1,6 @@
-use mathlib.Core.Path.{refl}
 use Rattle.bits.specs.Bits.{bit_of}
 use Rattle.bits.proofs.bit.Goals as goal
 
 pub returns : goal.returns
 unfolding bit_of
-returns c = refl
+returns c = rw c.from.ensures

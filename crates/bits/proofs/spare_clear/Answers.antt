@@ -1,6 +1,5 @@
 use Rattle.bits.proofs.Bits.{spare_by}
-use borrow.Author.Rules.{rules}
 use Rattle.bits.proofs.spare_clear.Goals as goal
 
 pub returns : goal.returns
-returns c = search (rules, spare_by)
+returns c = spare_by _ _ _ _ c.div_ceil.ensures c.bits_set.ensures
