@@ -3,9 +3,9 @@ use mathlib.Core.Path.{◌≡◌, refl, sym, ap, ◌∙◌}
 use mathlib.Core.Bool.{Bool, true, false, not, cond, ◌&&◌}
 use mathlib.Core.List.{List, []}
 use Prim.Native.Nat.{ℕ, ◌+◌, ◌*◌, ◌<◌, ◌≤◌}
-use native.Mathlib.Nat.{zero-add, add-zero, mul-one, mul-le-mul, mul-le-mul_right, le_trans, div-le_of_le-mul}
+use native.Mathlib.Nat.{zero-add, add-zero, mul-one, mul-le-mul_right, le_trans, div-le_of_le-mul}
 use native.Mathlib.Omega.{arith}
-use lib.ListN.{length, get_or, set}
+use lib.ListN.{length, get_or}
 use lib.Dec.{eqb}
 use mir.Val.{Fits, bool_byte}
 use mir.Syntax.{w32, w64}
@@ -13,13 +13,12 @@ use Rattle.base.specs.Lists.{every}
 use Rattle.base.specs.Clauses.{Filled}
 use Rattle.base.proofs.SumLoops.{Summed, summed_none, summed_more, summed_all}
 use Rattle.base.proofs.Every.{sum_none, every_add, every_ext, every_intro}
-use Rattle.base.proofs.Filling.{filled_none, filled_more, filled_to, filled_join}
+use Rattle.base.proofs.Filling.{filled_none, filled_join}
 use Rattle.table.specs.Table.{total, entry_places}
 use Rattle.table.specs.Whole.{down, gap, up}
-use Rattle.table.specs.Clauses.{Dividable, Divides, Shape, Reach}
+use Rattle.table.specs.Clauses.{Dividable, Divides}
 use Rattle.table.specs.declared.whole.Divided.{Divided}
 use Rattle.table.proofs.EntryPlaces.{entries_length, cell_at, row_at, column_at, grand_at}
-use Rattle.table.proofs.Totals.{reach_row, reach_column, reach_one, reach_all}
 use Rattle.table.proofs.EntryBounds.{total_at_most}
 use Rattle.table.proofs.Roundings.{gap_le}
 use Rattle.is_rounding.specs.declared.Lines.{Lines}
@@ -41,57 +40,6 @@ module _ (r c : ℕ) where
 
   pub stands_grand : Stands (entry_places r c) (grand_lines (r * c)) (r * c + r + c)
   stands_grand = record { at = λ l h. let z : l ≡ 0 = omega arith in rw (z, add-zero (r * c + r + c)) (grand_at r c) }
-
--- each kind lies among the cells
-module _ {r c : ℕ} {g : List ℕ} (s : Shape r c g) where
-  few : r * c ≤ 144
-  few = mul-le-mul s.rows s.columns
-
-  pub placed_cells : Placed (cell_lines (r * c)) 0 (length g)
-  placed_cells = record {
-    few = few;
-    stride_small = omega arith;
-    room = omega (arith, few);
-    reach = λ l h. rw (mul-one l) (reach_one s l h);
-  }
-
-  pub placed_rows : Placed (row_lines r c) (r * c) (length g)
-  placed_rows = record {
-    few = omega (arith, s.rows);
-    stride_small = s.columns;
-    room = omega (arith, few, s.rows);
-    reach = reach_row s;
-  }
-
-  pub placed_columns : Placed (column_lines r c) (r * c + r) (length g)
-  placed_columns = record {
-    few = omega (arith, s.columns);
-    stride_small = omega arith;
-    room = omega (arith, few, s.rows, s.columns);
-    reach = λ l h. rw (mul-one l) (reach_column s l h);
-  }
-
-  pub placed_grand : Placed (grand_lines (r * c)) (r * c + r + c) (length g)
-  placed_grand = record {
-    few = omega arith;
-    stride_small = omega arith;
-    room = omega (arith, few, s.rows, s.columns);
-    reach = λ l h. let z : l ≡ 0 = omega arith in rw z (reach_all s);
-  }
-
--- a line of a kind
-module _ {k : Lines} {from n l : ℕ} (p : Placed k from n) (h : l < k.count) where
-  pub line_start : Fits w64 (l * k.stride)
-  line_start = let a : l ≤ 144 = omega (arith, p.few) in record { fits = omega (arith, mul-le-mul a p.stride_small) }
-
-  pub line_reach : Reach (l * k.stride) k.step k.number n
-  line_reach = p.reach l h
-
-  pub line_inside : from + l < 169
-  line_inside = omega (arith, p.room)
-
-  pub line_place : Fits w64 (from + l)
-  line_place = record { fits = omega (arith, line_inside) }
 
 -- an entry of the table over d
 module _ {k : Lines} {from l d : ℕ} {g : List ℕ} (p : Placed k from (length g)) (t : Cells d g) (h : l < k.count) where
@@ -134,16 +82,6 @@ bounds_none d f from low high = record { lows = filled_none _ from low; highs = 
 module _ {d : ℕ} {f : ℕ → ℕ} {from : ℕ} {low high low' high' : List ℕ} {l : ℕ} (b : BoundsFrom d f from low high low' high' l) where
   pub bounds_length : Room low high → Room low' high'
   bounds_length r = record { low_length = b.lows.len ∙ r.low_length; high_length = b.highs.len ∙ r.high_length }
-
-  pub bounds_more : {x y : ℕ} → x ≡ down d (f l) → y ≡ up d (f l) → from + l < 169 → Room low high
-      → BoundsFrom d f from low high (set low' (from + l) x) (set high' (from + l) y) (l + 1)
-  bounds_more {x} {y} e i h r = record {
-    lows = filled_more b.lows x e (omega (arith, r.low_length));
-    highs = filled_more b.highs y i (omega (arith, r.high_length));
-  }
-
-  pub bounds_all : {n : ℕ} → l ≤ n → n ≤ l → BoundsFrom d f from low high low' high' n
-  bounds_all a c = record { lows = filled_to b.lows a c; highs = filled_to b.highs a c }
 
 -- one kind after another: the bounds of the first n entries, and of one kind more
 pub record BoundsTo (entries : List (List ℕ)) (d : ℕ) (g a₀ b₀ a b : List ℕ) (n : ℕ) : Type 0 where

@@ -15,13 +15,13 @@ use mir.Syntax.{w32, w64}
 use mir.Val.{Fits}
 use Rattle.base.specs.Buffers.{written}
 use Rattle.base.proofs.Lists.{length_tabulate, each_more}
-use Rattle.base.proofs.Buffers.{written_length, written_front}
+use Rattle.base.proofs.Buffers.{written_front}
 use Rattle.base.proofs.Filling.{filled_written}
 use Rattle.cell_order.specs.Order.{nth_row, nth_column, rank}
 use Rattle.cell_order.proofs.Ranks.{nth_row_lem, nth_column_lem, nth_rank, rank_row, rank_column, rank_below}
 use Rattle.table.specs.Table.{entry_places}
-use Rattle.is_rounding.specs.Clauses.{entries_between, Counts}
-use Rattle.next_rounding.specs.Clauses.{Small, nth_place, Places, digit, value_of, digit_at, number_in, numbered, IsNumbering, NumberReady, passes, NoneFrom, FirstFrom}
+use Rattle.is_rounding.specs.Clauses.{entries_between}
+use Rattle.next_rounding.specs.Clauses.{Small, nth_place, digit, value_of, digit_at, number_in, numbered, IsNumbering, NumberReady, passes, FirstFrom}
 use Rattle.next_rounding.proofs.Digits.{value_more}
 
 module _ {r c : ℕ} (s : Small r c) where
@@ -92,9 +92,6 @@ pub record PlacesTo (r c : ℕ) (l : List ℕ) (i : ℕ) : Type 0 where
   pub len : length l ≡ 16
   pub are : (j : ℕ) → j < i → get_or l j 0 ≡ nth_place r c j
 
-pub places_none : (r c : ℕ) (l : List ℕ) → length l ≡ 16 → PlacesTo r c l 0
-places_none r c l e = record { len = e; are = λ j h. absurd (omega arith) }
-
 module _ {r c : ℕ} {l : List ℕ} {i : ℕ} (p : PlacesTo r c l i) where
   pub places_more : Small r c → i < r * c → {x y : ℕ} → x ≡ nth_row r c i → y ≡ nth_column r c i
       → PlacesTo r c (set l i (x * c + y)) (i + 1)
@@ -102,9 +99,6 @@ module _ {r c : ℕ} {l : List ℕ} {i : ℕ} (p : PlacesTo r c l i) where
     len = length-set l i (x * c + y) ∙ p.len;
     are = each_more (λ (j : ℕ) (v : ℕ). v ≡ nth_place r c j) l i (x * c + y) (omega (arith, p.len, few_cells s)) p.are (ap₂ (λ (a b : ℕ). a * c + b) e f);
   }
-
-  pub places_all : r * c ≤ i → Places r c l
-  places_all h = record { len = p.len; are = λ j q. p.are j (omega arith) }
 
 -- the number of the digits so far
 pub record ValueTo (b : ℕ → ℕ) (i x : ℕ) : Type 0 where
@@ -237,9 +231,6 @@ module _ {test : ℕ → Bool} {from x : ℕ} (p : Passed test from x) where
   pub first_found : {end : ℕ} → from ≤ x → x < end → test x ≡ true → FirstFrom test from end x
   first_found a b e = record { least = a; below = b; skipped = p.skipped; passes = e }
 
-  pub none_found : {end : ℕ} → end ≤ x → NoneFrom test from end
-  none_found h = record { skipped = λ y a l. p.skipped y a (omega arith) }
-
 -- the counts of an array in a longer buffer
 module _ {r c : ℕ} {places low high : List ℕ} (ready : IsNumbering r c places low high) (old : List ℕ) {new : List ℕ} (room : length old ≡ 16)
     (x : ℕ) (w : new ≡ written (numbered r c low x) old) where
@@ -247,25 +238,8 @@ module _ {r c : ℕ} {places low high : List ℕ} (ready : IsNumbering r c place
   unfolding numbered
   array_length = length_tabulate (r * c) _
 
-  pub buffer_length : length new ≡ 16
-  buffer_length = ap length w ∙ written_length (numbered r c low x) old array_length (omega (arith, few_cells ready.small)) ∙ room
-
   prefix_is : take (r * c) new ≡ numbered r c low x
   prefix_is = ap (take (r * c)) w ∙ written_front (numbered r c low x) old array_length
-
-  pub held_ready : Counts r c (take (r * c) new) low high
-  held_ready =
-      let s = ready.small in
-      record {
-        shape = record {
-          some_rows = s.some_rows;
-          rows = omega (arith, s.rows);
-          some_columns = s.some_columns;
-          columns = omega (arith, s.columns);
-          cells = ap length prefix_is ∙ array_length;
-        };
-        room = ready.room;
-      }
 
   pub held_is : {b : Bool} → b ≡ entries_between (entry_places r c) (take (r * c) new) low high → b ≡ passes r c low high x
   held_is f = f ∙ ap (λ (l : List ℕ). entries_between (entry_places r c) l low high) prefix_is
