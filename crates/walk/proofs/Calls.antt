@@ -5,15 +5,16 @@ use mathlib.Core.Bool.{Bool, true, false, false≢true, not}
 use mathlib.Core.List.{List, [], ◌∷◌, ◌++◌}
 use Prim.Native.Nat.{ℕ, ◌*◌, ◌<◌, ◌≤◌}
 use lib.ListN.{length}
+use native.Mathlib.Omega.{arith}
 use lib.Dec.{leb}
-use borrow.Author.Tests.{le-leb, lt-leb, lt-ltb, le-ltb, leb-true, not-false}
+use borrow.Author.Tests.{le-leb, lt-ltb, le-ltb, leb-true, not-false}
 use Rattle.base.specs.Buffers.{written}
 use Rattle.base.proofs.Lists.{and_left, and_right}
 use Rattle.refusals.specs.declared.Refusal.{Refusal}
-use Rattle.refusals.specs.declared.Refusal.TheVariants.{Size, LargeCell, Buffer, WalkSize, NotRounding}
-use Rattle.refusals.specs.Due.{Test, refuse, due, after, Answers}
-use Rattle.refusals.proofs.Dues.{due_here, due_next, due_first, due_second, not_here, not_later}
-use Rattle.table.specs.Check.{size_within, table_refusal, cells_within, size_test, denominator_test, count_test, BelowZero}
+use Rattle.refusals.specs.declared.Refusal.TheVariants.{LargeCell, Buffer, NotRounding}
+use Rattle.refusals.specs.Due.{Test, refuse, due, answer_of, after, Answers}
+use Rattle.refusals.proofs.Dues.{due_next, due_first, due_second, not_here, not_later}
+use Rattle.table.specs.Check.{table_refusal, cells_within, size_test, denominator_test, count_test, BelowZero}
 use Rattle.table.specs.Clauses.{IsTable, answered, check_of, check_of_cells}
 use Rattle.table.specs.declared.Table.{Table}
 use Rattle.table.proofs.Checks.{answered_refused, answered_nothing, answered_sizes, passed_all, below_zero}
@@ -23,24 +24,32 @@ use Rattle.rounding.specs.Call.{round_refusal}
 use Rattle.next_rounding.specs.Next.{next_rounding}
 use Rattle.next_rounding.specs.Clauses.{Small, Found}
 use Rattle.walk.specs.declared.Step.{Step}
-use Rattle.walk.specs.declared.Step.TheVariants.{Next, Last, Refused}
-use Rattle.walk.specs.Call.{walk_within, walk_size_test, walk_tests, room_test, array_tests, first_refusal, next_refusal, next_answer, next_left}
-use Rattle.walk.specs.Clauses.{walk_check}
+use Rattle.walk.specs.declared.Step.TheVariants.{Next, Last}
+use Rattle.walk.specs.Call.{walk_within, walk_size_test, walk_tests, room_test, array_tests, first_refusal, next_refusal, step_of, next_answer, next_left}
+use Rattle.walk.specs.Clauses.{sides_check, walk_check}
 
 -- 1 and 15, whatever else is tested after them
-module _ (r c : ℕ) {b : Bool} (e : b ≡ size_within r c) where
-  size_due : b ≡ false → (l : List Test) → due (size_test r c ∷ l) ≡ Some Size
-  size_due h l = due_here (size_test r c) l (ap not (sym e ∙ h))
+module _ (r c : ℕ) {k : Result ⊤ Refusal} (e : k ≡ sides_check r c) where
+  abbrev sides : List Test
+  sides = size_test r c ∷ walk_size_test r c ∷ []
 
-  module _ (h : b ≡ true) {s : Bool} (f : s ≡ walk_within r c) where
-    size_passes : (l : List Test) → due (size_test r c ∷ l) ≡ due l
-    size_passes l = due_next (size_test r c) l (ap not (sym e ∙ h))
+  sides_due : {x : Refusal} → k ≡ Err x → (l : List Test) → due (size_test r c ∷ walk_size_test r c ∷ l) ≡ Some x
+  unfolding sides_check answer_of
+  sides_due {x} h l = due_first sides l x (go (due sides) (sym h ∙ e))
+    where
+      go : (o : Option Refusal) → Err x ≡ answer_of o → o ≡ Some x
+      go None q = absurd (let z : ◌≡◌ {A = ℕ} 0 1 = cc in omega arith)
+      go (Some y) q = cc
 
-    large_due : s ≡ false → (l : List Test) → due (size_test r c ∷ walk_size_test r c ∷ l) ≡ Some WalkSize
-    large_due i l = size_passes (walk_size_test r c ∷ l) ∙ due_here (walk_size_test r c) l (ap not (sym f ∙ i))
-
-    small_due : s ≡ true → (l : List Test) → due (size_test r c ∷ walk_size_test r c ∷ l) ≡ due (size_test r c ∷ l)
-    small_due i l = size_passes (walk_size_test r c ∷ l) ∙ due_next (walk_size_test r c) l (ap not (sym f ∙ i)) ∙ sym (size_passes l)
+  small_due : k ≡ Ok tt → (l : List Test) → due (size_test r c ∷ walk_size_test r c ∷ l) ≡ due (size_test r c ∷ l)
+  unfolding sides_check answer_of
+  small_due h l =
+      let nothing = go (due sides) (sym h ∙ e) in
+      due_second sides l nothing ∙ sym (due_next (size_test r c) l (not_here (size_test r c) (walk_size_test r c ∷ []) nothing))
+    where
+      go : (o : Option Refusal) → Ok tt ≡ answer_of o → o ≡ None
+      go None q = refl
+      go (Some y) q = absurd (let z : ◌≡◌ {A = ℕ} 0 1 = cc in omega arith)
 
 module _ (r c d : ℕ) (g : List ℕ) where
   -- the refusals of a table that come after
@@ -48,33 +57,24 @@ module _ (r c d : ℕ) (g : List ℕ) where
   later = denominator_test d ∷ count_test (length g) (r * c) ∷ refuse LargeCell (not (cells_within d g)) ∷ []
 
   -- the check, and the first call, in which the table's own follows
-  module _ {b : Bool} (e : b ≡ size_within r c) where
-    pub bad_size : b ≡ false → Err Size ≡ walk_check r c d g
+  module _ {k : Result ⊤ Refusal} (e : k ≡ sides_check r c) where
+    pub large_refused : {x : Refusal} → k ≡ Err x → Err x ≡ walk_check r c d g
     unfolding walk_check
-    bad_size h = ap (answered r c d) (sym (size_due r c e h (walk_size_test r c ∷ later)))
+    large_refused h = ap (answered r c d) (sym (sides_due r c e h later))
 
-    pub first_bad_size : b ≡ false → (room : ℕ) → first_refusal r c d g room ≡ Some Size
+    pub small_checked : k ≡ Ok tt → {t : Result Table Refusal} → t ≡ check_of r c d g → t ≡ walk_check r c d g
+    unfolding walk_check check_of check_of_cells
+    small_checked h q = q ∙ ap (answered r c d) (sym (small_due r c e h later))
+
+    pub first_refused : {x : Refusal} → k ≡ Err x → (room : ℕ) → first_refusal r c d g room ≡ Some x
     unfolding first_refusal
-    first_bad_size h room = size_due r c e h (walk_size_test r c ∷ (later ++ (room_test r c room ∷ [])))
+    first_refused h room = sides_due r c e h (later ++ (room_test r c room ∷ []))
 
-    module _ (h : b ≡ true) {s : Bool} (f : s ≡ walk_within r c) where
-      pub too_large : s ≡ false → Err WalkSize ≡ walk_check r c d g
-      unfolding walk_check
-      too_large i = ap (answered r c d) (sym (large_due r c e h f i later))
-
-      pub small_enough : s ≡ true → {k : Result Table Refusal} → k ≡ check_of r c d g → k ≡ walk_check r c d g
-      unfolding walk_check check_of check_of_cells
-      small_enough i q = q ∙ ap (answered r c d) (sym (small_due r c e h f i later))
-
-      pub first_too_large : s ≡ false → (room : ℕ) → first_refusal r c d g room ≡ Some WalkSize
-      unfolding first_refusal
-      first_too_large i room = large_due r c e h f i (later ++ (room_test r c room ∷ []))
-
-      pub first_rounds : s ≡ true → {old new : List ℕ} {a : Result ⊤ Refusal}
-          → Answers (round_refusal r c d g (length old)) (written (first_rounding r c d g) old) old a new
-          → Answers (first_refusal r c d g (length old)) (written (first_rounding r c d g) old) old a new
-      unfolding first_refusal round_refusal
-      first_rounds i {old} q = rw (small_due r c e h f i (later ++ (room_test r c (length old) ∷ []))) q
+    pub first_rounds : k ≡ Ok tt → {old new : List ℕ} {a : Result ⊤ Refusal}
+        → Answers (round_refusal r c d g (length old)) (written (first_rounding r c d g) old) old a new
+        → Answers (first_refusal r c d g (length old)) (written (first_rounding r c d g) old) old a new
+    unfolding first_refusal round_refusal
+    first_rounds h {old} q = rw (small_due r c e h (later ++ (room_test r c (length old) ∷ []))) q
 
   -- where nothing is due, the table is accepted, and small
   module _ (h : due (walk_tests r c d g) ≡ None) where
@@ -96,13 +96,6 @@ module _ (r c d : ℕ) (g : List ℕ) where
           some_columns = s.some_columns;
           columns = leb-true c 4 (and_right (leb r 4) (leb c 4) within);
         }
-
--- a size is small, or one of the two is not
-pub rows_large : (r c : ℕ) → 4 < r → false ≡ walk_within r c
-rows_large r c h = simp (lt-leb r 4 h)
-
-pub columns_decide : (r c : ℕ) → r ≤ 4 → leb c 4 ≡ walk_within r c
-columns_decide r c h = simp (le-leb r 4 h)
 
 -- what the check's answer says
 module _ (r c d : ℕ) (g : List ℕ) {k : Result Table Refusal} (e : k ≡ walk_check r c d g) where
@@ -160,31 +153,35 @@ module _ (r c d : ℕ) (g : List ℕ) {k : Result Table Refusal} (e : k ≡ walk
     found_so n f = rw sizes at f
 
 -- the answer of the second call and its buffer, by what is due
-pub record Answered (r c d : ℕ) (g n old : List ℕ) (a : Step) (new : List ℕ) : Type 0 where
-  pub answer : a ≡ next_answer r c d g n (length old)
-  pub buffer : new ≡ next_left r c d g n old
-
 module _ (r c d : ℕ) (g n old : List ℕ) where
-  pub refused_so : {x : Refusal} → next_refusal r c d g n (length old) ≡ Some x → Answered r c d g n old (Refused x) old
-  unfolding next_answer next_left after
-  refused_so h = record { answer = rw h; buffer = rw h }
+  pub refused_answer : {x : Refusal} → next_refusal r c d g n (length old) ≡ Some x → Err x ≡ next_answer r c d g n (length old)
+  unfolding next_answer
+  refused_answer h = rw h refl
+
+  pub refused_left : {x : Refusal} → next_refusal r c d g n (length old) ≡ Some x → old ≡ next_left r c d g n old
+  unfolding next_left after
+  refused_left h = rw h refl
 
   module _ (h : next_refusal r c d g n (length old) ≡ None) {b : Bool} {new : List ℕ} (f : Found (next_rounding r c d g n) old b new) where
-    pub next_so : b ≡ true → Answered r c d g n old Next new
-    unfolding next_answer next_left after
-    next_so e = go (next_rounding r c d g n) refl f
-      where
-        go : (o : Option (List ℕ)) → next_rounding r c d g n ≡ o → Found o old b new → Answered r c d g n old Next new
-        go (Some k) q s = record { answer = rw (h, q); buffer = rw (h, q) s.left }
-        go None q s = absurd (false≢true (sym s.answer ∙ e))
+    pub found_left : new ≡ next_left r c d g n old
+    unfolding next_left after
+    found_left = rw h f.left
 
-    pub last_so : b ≡ false → Answered r c d g n old Last new
-    unfolding next_answer next_left after
-    last_so e = go (next_rounding r c d g n) refl f
+    pub next_so : b ≡ true → Ok Next ≡ next_answer r c d g n (length old)
+    unfolding next_answer
+    next_so e = rw h (go (next_rounding r c d g n) f)
       where
-        go : (o : Option (List ℕ)) → next_rounding r c d g n ≡ o → Found o old b new → Answered r c d g n old Last new
-        go (Some k) q s = absurd (false≢true (sym e ∙ s.answer))
-        go None q s = record { answer = rw (h, q); buffer = rw (h, q) s.left }
+        go : (o : Option (List ℕ)) → Found o old b new → ◌≡◌ {A = Result Step Refusal} (Ok Next) (Ok (step_of o))
+        go (Some k) s = refl
+        go None s = absurd (false≢true (sym s.answer ∙ e))
+
+    pub last_so : b ≡ false → Ok Last ≡ next_answer r c d g n (length old)
+    unfolding next_answer
+    last_so e = rw h (go (next_rounding r c d g n) f)
+      where
+        go : (o : Option (List ℕ)) → Found o old b new → ◌≡◌ {A = Result Step Refusal} (Ok Last) (Ok (step_of o))
+        go (Some k) s = absurd (false≢true (sym e ∙ s.answer))
+        go None s = refl
 
 -- an accepted table that is small, a controlled rounding of it and a buffer with room: nothing is due
 module _ (r c d : ℕ) (g : List ℕ) (h : table_refusal r c d g ≡ None) (hr : r ≤ 4) (hc : c ≤ 4) where

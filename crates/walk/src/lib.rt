@@ -6,7 +6,7 @@ ghost use Rattle.base.specs.Buffers.{written};
 ghost use Rattle.refusals.specs.Due.{Answers};
 ghost use Rattle.first_rounding.specs.First.{first_rounding};
 ghost use Rattle.walk.specs.Call.{max_side, walk_within, first_refusal, next_answer, next_left, step_number};
-ghost use Rattle.walk.specs.Clauses.{walk_check};
+ghost use Rattle.walk.specs.Clauses.{sides_check, walk_check};
 ghost use Rattle.walk.specs.Examples.{firsts, first_says, steps, step_says, said_first, said_step};
 
 use is_rounding::is_rounding;
@@ -30,36 +30,43 @@ pub enum Step {
 fn walk_within(rows: u32, columns: u32) -> bool
     ensures { result ≡ walk_within rows columns }
 {
-    if MAX_SIDE < rows {
-        return false;
+    rows <= MAX_SIDE && columns <= MAX_SIDE
+}
+
+// The first of 1 and 15 that applies.
+#[tactic(auto, unfolding(crate::specs::Clauses::sides_check, refusals::specs::Due::due, refusals::specs::Due::answer_of))]
+fn check_sides(rows: u32, columns: u32) -> Result<(), Refusal>
+    ensures { result ≡ sides_check rows columns }
+{
+    if !size_within(rows, columns) {
+        return Err(Refusal::Size);
     }
-    columns <= MAX_SIDE
+    if !walk_within(rows, columns) {
+        return Err(Refusal::WalkSize);
+    }
+    Ok(())
 }
 
 // The table's sizes, or the first refusal that applies.
 fn check_small(rows: u32, columns: u32, denominator: u32, cells: &[u32]) -> Result<Table, Refusal>
     ensures { result ≡ walk_check rows columns denominator cells.now }
 {
-    if !size_within(rows, columns) {
-        return Err(Refusal::Size);
-    }
-    if !walk_within(rows, columns) {
-        return Err(Refusal::WalkSize);
-    }
+    check_sides(rows, columns)?;
     check(rows, columns, denominator, cells)
 }
 
 // Writes the first controlled rounding of a table, or returns the first refusal that applies.
-pub fn first(rows: u32, columns: u32, denominator: u32, cells: &[u32], counts: &mut [u16]) -> Result<(), Refusal>
+pub fn first(
+    rows: u32,
+    columns: u32,
+    denominator: u32,
+    cells: &[u32],
+    counts: &mut [u16],
+) -> Result<(), Refusal>
     ensures { Answers (first_refusal rows columns denominator cells.now (length counts.old))
         (written (first_rounding rows columns denominator cells.now) counts.old) counts.old result counts.new }
 {
-    if !size_within(rows, columns) {
-        return Err(Refusal::Size);
-    }
-    if !walk_within(rows, columns) {
-        return Err(Refusal::WalkSize);
-    }
+    check_sides(rows, columns)?;
     round(rows, columns, denominator, cells, counts)
 }
 

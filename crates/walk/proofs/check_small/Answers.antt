@@ -1,12 +1,11 @@
-use Rattle.walk.proofs.Calls.{bad_size, too_large, small_enough}
-use borrow.Author.Rules.{rules}
+use Rattle.std.proofs.lemmas.Result.{err_from_is_err_and}
+use Rattle.walk.proofs.Calls.{large_refused, small_checked}
 use Rattle.walk.proofs.check_small.Goals as goal
 
-pub returns-then-not-size_within : goal.returns-then-not-size_within
-returns-then-not-size_within c = search (rules, bad_size)
-
-pub returns-then-not-walk_within : goal.returns-then-not-walk_within
-returns-then-not-walk_within c = search (rules, too_large)
+pub returns-in_err-check_sides : goal.returns-in_err-check_sides
+returns-in_err-check_sides c =
+    let p = err_from_is_err_and c.from_residual.result c.from_residual.ensures.1 in
+    rw (p.1, p.2) (large_refused _ _ _ _ c.check_sides.ensures c.in_err-check_sides.was)
 
 pub returns : goal.returns
-returns c = search (rules, small_enough)
+returns c = small_checked _ _ _ _ c.check_sides.ensures c.in_ok-check_sides.was c.check.ensures
