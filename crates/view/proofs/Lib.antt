@@ -1,4 +1,3 @@
 mod Finds
-mod Walks
 mod Viewing
 pub mod Examples

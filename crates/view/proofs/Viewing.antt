@@ -1,7 +1,7 @@
 -- What the readers of a view say on each way through their tests, and of a plan that opens. Assumes nothing.
-use Rattle.std.specs.Prelude.{Option, Some, None}
+use Rattle.std.specs.Prelude.{Some, None, Ok}
 use mathlib.Core.Path.{◌≡◌, sym, ap, ◌∙◌}
-use mathlib.Core.Bool.{Bool, true, false, not, ◌&&◌, and-false}
+use mathlib.Core.Bool.{true, false, ◌&&◌, and-false}
 use mathlib.Core.List.{List}
 use Prim.Native.Nat.{ℕ, ◌+◌, ◌*◌, ◌-◌, ◌<◌, ◌≤◌}
 use native.Mathlib.Nat.{mul-le-mul}
@@ -11,7 +11,7 @@ use lib.ListN.{length, get_or}
 use lib.Dec.{leb, ltb}
 use mir.Val.{Fits}
 use mir.Syntax.{w64}
-use borrow.Author.Tests.{le-leb, lt-ltb, le-ltb, leb-true, ltb-true, not-true, not-false}
+use borrow.Author.Tests.{le-leb, lt-ltb, leb-true, ltb-true}
 use Rattle.base.proofs.Lists.{get_d_tabulate, and_left, and_right, and_both}
 use Rattle.table.specs.Check.{up_to}
 use Rattle.weighted_arrays.specs.Plan.{array_at}
@@ -23,67 +23,53 @@ use Rattle.reading.proofs.Readings.{decode_arrays, decode_weight, decode_counts,
 use Rattle.view.proofs.Finds.{weight_found, count_there}
 use Rattle.opening.specs.Open.{Opens, open_answer}
 use Rattle.opening.proofs.Opening.{opens_layout, opens_answer}
-use Rattle.view.specs.declared.Summary.{Summary}
-use Rattle.view.specs.View.{summary_of, has_cell, weight_answer, count_answer, Readers}
+use Rattle.form.specs.declared.Sizes.{Sizes}
+use Rattle.view.specs.View.{has_cell, weight_answer, count_answer, Readers}
 
 -- the tests of an array's number
-module _ (b : List ℕ) (s : Summary) (k : ℕ) where
-  module _ (t : Bool) (e : t ≡ up_to s.arrays k) where
-    pub no_weight : not t ≡ true → None ≡ weight_answer b s k
+module _ (b : List ℕ) (s : Sizes) (k : ℕ) where
+  pub no_weight : false ≡ up_to s.arrays k → None ≡ weight_answer b (Ok s) k
+  unfolding weight_answer
+  no_weight h = simp (sym h)
+
+  pub no_array : (p q : ℕ) → false ≡ up_to s.arrays k → None ≡ count_answer b (Ok s) k p q
+  unfolding count_answer
+  no_array p q h = simp (sym h)
+
+  module _ (h : true ≡ up_to s.arrays k) where
+    pub weight_read : weight_answer b (Ok s) k ≡ found_weight b k
     unfolding weight_answer
-    no_weight h = simp (sym e ∙ not-true t h)
+    weight_read = simp (sym h)
 
-    pub no_array : (p q : ℕ) → not t ≡ true → None ≡ count_answer b s k p q
-    unfolding count_answer
-    no_array p q h = simp (sym e ∙ not-true t h)
+    module _ (p q : ℕ) where
+      pub no_cell : false ≡ has_cell s p q → None ≡ count_answer b (Ok s) k p q
+      unfolding count_answer
+      no_cell l = simp (sym l, and-false)
 
-    module _ (h : not t ≡ false) where
-      pub weight_read : (x : Option ℕ) → x ≡ found_weight b k → x ≡ weight_answer b s k
-      unfolding weight_answer
-      weight_read x q = q ∙ sym (simp (sym e ∙ not-false t h))
-
-      module _ (p q : ℕ) (u : Bool) (ue : u ≡ has_cell s p q) where
-        pub no_cell : not u ≡ true → None ≡ count_answer b s k p q
-        unfolding count_answer
-        no_cell l = simp (sym ue ∙ not-true u l, sym e ∙ not-false t h)
-
-        pub count_read : not u ≡ false → (x : Option ℕ) → x ≡ found_count b k (p * s.columns + q) → x ≡ count_answer b s k p q
-        unfolding count_answer
-        count_read l x r = r ∙ sym (simp (sym e ∙ not-false t h, sym ue ∙ not-false u l))
+      pub count_read : true ≡ has_cell s p q → count_answer b (Ok s) k p q ≡ found_count b k (p * s.columns + q)
+      unfolding count_answer
+      count_read l = simp (sym h, sym l)
 
 -- the tests of a cell's row and column
-module _ (s : Summary) (p q : ℕ) where
-  pub row_past : s.rows ≤ p → false ≡ has_cell s p q
-  row_past h = simp (le-ltb p s.rows h)
+module _ (s : Sizes) (p q : ℕ) (l : true ≡ has_cell s p q) where
+  pub cell_small : (p < 12) × (q < 12) × (s.columns ≤ 12)
+  cell_small =
+      let a = ltb p s.rows && ltb p 12 in
+      let c = ltb q s.columns in
+      let d = leb s.columns 12 in
+      let all : (a && c && d) ≡ true = sym l in
+      let two : (a && c) ≡ true = and_left (a && c) d all in
+      let small : s.columns ≤ 12 = leb-true _ _ (and_right (a && c) d all) in
+      (ltb-true _ _ (and_right (ltb p s.rows) (ltb p 12) (and_left a c two)), omega (arith, ltb-true q s.columns (and_right a c two)), small)
 
-  pub row_many : 12 ≤ p → false ≡ has_cell s p q
-  row_many h = simp (le-ltb p 12 h, and-false)
+  product : p * s.columns ≤ 144
+  product = let h : p ≤ 12 = omega (arith, cell_small.0) in mul-le-mul h cell_small.2
 
-  pub column_past : s.columns ≤ q → false ≡ has_cell s p q
-  column_past h = simp (le-ltb q s.columns h, and-false)
+  pub row_fits : Fits w64 (p * s.columns)
+  row_fits = record { fits = omega (arith, product) }
 
-  pub cell_last : p < s.rows → p < 12 → q < s.columns → leb s.columns 12 ≡ has_cell s p q
-  cell_last h l m = simp (lt-ltb p s.rows h, lt-ltb p 12 l, lt-ltb q s.columns m)
-
-  module _ (u : Bool) (ue : u ≡ has_cell s p q) (l : not u ≡ false) where
-    pub cell_small : (p < 12) × (q < 12) × (s.columns ≤ 12)
-    cell_small =
-        let a = ltb p s.rows && ltb p 12 in
-        let c = ltb q s.columns in
-        let d = leb s.columns 12 in
-        let all : (a && c && d) ≡ true = sym ue ∙ not-false u l in
-        let two : (a && c) ≡ true = and_left (a && c) d all in
-        let small : s.columns ≤ 12 = leb-true _ _ (and_right (a && c) d all) in
-        (ltb-true _ _ (and_right (ltb p s.rows) (ltb p 12) (and_left a c two)), omega (arith, ltb-true q s.columns (and_right a c two)), small)
-
-    product : p * s.columns ≤ 144
-    product = let h : p ≤ 12 = omega (arith, cell_small.0) in mul-le-mul h cell_small.2
-
-    pub row_fits : Fits w64 (p * s.columns)
-    row_fits = record { fits = omega (arith, product) }
-
-    pub place_fits : Fits w64 (p * s.columns + q)
-    place_fits = record { fits = omega (arith, product, cell_small.1) }
+  pub place_fits : Fits w64 (p * s.columns + q)
+  place_fits = record { fits = omega (arith, product, cell_small.1) }
 
 -- of a plan that opens they find every weight and count
 module _ (b : List ℕ) (h : Opens b) where
@@ -101,7 +87,7 @@ module _ (b : List ℕ) (h : Opens b) where
     has : up_to (arrays_of b) k ≡ true
     has = and_both (le-leb 1 k some) (le-leb k (arrays_of b) last)
 
-    finds_weight : weight_answer b (summary_of (open_answer b)) k ≡ Some (array_at (decode b).arrays (k - 1)).weight
+    finds_weight : weight_answer b (open_answer b) k ≡ Some (array_at (decode b).arrays (k - 1)).weight
     unfolding weight_answer
     finds_weight =
         let is : (array_at (decode b).arrays (k - 1)).weight ≡ amount_of b k = decode_weight b (k - 1) there ∙ ap (amount_of b) from_zero in
@@ -114,7 +100,7 @@ module _ (b : List ℕ) (h : Opens b) where
       inside : place < rows_of b * columns_of b
       inside = digits_lt hp hq
 
-      finds_count : count_answer b (summary_of (open_answer b)) k p q ≡ Some (get_or (array_at (decode b).arrays (k - 1)).counts place 0)
+      finds_count : count_answer b (open_answer b) k p q ≡ Some (get_or (array_at (decode b).arrays (k - 1)).counts place 0)
       unfolding count_answer
       finds_count =
           let l = is_laid in

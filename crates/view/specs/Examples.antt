@@ -1,20 +1,22 @@
 -- What a view of a plan that is typed out byte by byte says: arrays are counted from 1, rows and columns from 0. Assumes nothing.
-use Rattle.std.specs.Prelude.{List, [], ◌∷◌, map, ℕ, Option, Some, None}
+use Rattle.std.specs.Prelude.{List, [], ◌∷◌, map, ℕ, Option, Some, None, Result, Ok, Err}
+use Rattle.refusals.specs.declared.Refusal.{Refusal}
+use Rattle.refusals.specs.declared.Refusal.TheVariants.{Layout}
+use Rattle.form.specs.declared.Sizes.{Sizes}
 use Rattle.form.specs.Examples.{wide, largest}
 use Rattle.opening.specs.Open.{open_answer}
-use Rattle.view.specs.declared.Summary.{Summary}
-use Rattle.view.specs.View.{summary_of, weight_answer, count_answer}
+use Rattle.view.specs.View.{weight_answer, count_answer}
 
 -- what opening its bytes, those with the largest denominator, and no bytes, finds
-abbrev pub summaries : List Summary
+abbrev pub summaries : List (Result Sizes Refusal)
 summaries =
-    record { refusal = 0; rows = 2; columns = 3; arrays = 7; denominator = 1000 }
-    ∷ record { refusal = 0; rows = 1; columns = 1; arrays = 1; denominator = 65535 }
-    ∷ record { refusal = 5; rows = 0; columns = 0; arrays = 0; denominator = 0 }
+    Ok (record { rows = 2; columns = 3; arrays = 7; denominator = 1000 })
+    ∷ Ok (record { rows = 1; columns = 1; arrays = 1; denominator = 65535 })
+    ∷ Err Layout
     ∷ []
 
-abbrev pub summaries_found : List Summary
-summaries_found = summary_of (open_answer wide) ∷ summary_of (open_answer largest) ∷ summary_of (open_answer []) ∷ []
+abbrev pub summaries_found : List (Result Sizes Refusal)
+summaries_found = open_answer wide ∷ open_answer largest ∷ open_answer [] ∷ []
 
 -- the weights of arrays 0 to 8: the first and the last are none, and so are those of which only the low part is a number of an array
 abbrev pub weights : List (Option ℕ)
@@ -24,7 +26,7 @@ weights =
 
 abbrev pub weights_found : List (Option ℕ)
 weights_found =
-    map (weight_answer wide (summary_of (open_answer wide)))
+    map (weight_answer wide (open_answer wide))
     (0 ∷ 1 ∷ 2 ∷ 3 ∷ 4 ∷ 5 ∷ 6 ∷ 7 ∷ 8
     ∷ 257 ∷ 65537 ∷ 4294967297 ∷ 18446744073709551615 ∷ [])
 
@@ -63,4 +65,4 @@ places =
     ∷ []
 
 abbrev pub count_found : Place → Option ℕ
-count_found x = count_answer wide (summary_of (open_answer wide)) x.array x.row x.column
+count_found x = count_answer wide (open_answer wide) x.array x.row x.column

@@ -1,21 +1,24 @@
-use Rattle.view.proofs.Finds.{too_many_for, past_count, no_cell, past_end, past_body, count_found_lem}
-use borrow.Author.Rules.{rules}
+use mathlib.Core.Path.{◌∙◌}
+use Prim.Native.Nat.{◌*◌}
+use native.Mathlib.Omega.{arith}
+use Rattle.byte_numbers.proofs.Numbers.{part_number_lem}
+use Rattle.view.proofs.Finds.{no_entry, no_cell, beyond, count_stands}
 use Rattle.view.proofs.find.find_count.Goals as goal
 
-pub returns-then-k : goal.returns-then-k
-returns-then-k c = search (rules, too_many_for)
-
-pub returns-then-plan-k : goal.returns-then-plan-k
-returns-then-plan-k c = search (rules, past_count)
+pub returns-then-not-has_entry : goal.returns-then-not-has_entry
+returns-then-not-has_entry c = no_entry _ _ _ c.if-not-has_entry.ensures
 
 pub returns-then-i : goal.returns-then-i
-returns-then-i c = search (rules, no_cell)
+returns-then-i c = no_cell _ _ _ c.if-i.true
 
-pub returns-then-plan-end : goal.returns-then-plan-end
-returns-then-plan-end c = search (rules, past_end)
+pub returns-in_err-body : goal.returns-in_err-body
+returns-in_err-body c = rw c.from_residual.ensures (beyond _ _ _ (omega (arith, c.in_err-body.ensures.lookup.0)))
 
-pub returns-then-plan-end-2 : goal.returns-then-plan-end-2
-returns-then-plan-end-2 c = search (rules, past_body)
+pub returns-then-body-i : goal.returns-then-body-i
+returns-then-body-i c = beyond _ _ _ (omega (arith, c.in_ok-body.ensures.lookup.0))
 
 pub returns : goal.returns
-returns c = search (rules, count_found_lem)
+returns c =
+    let l = c.in_ok-body.ensures.lookup.0 in
+    count_stands _ _ _ c.if-not-has_entry.ensures c.if-i.false (omega (arith, l)) _
+    (part_number_lem _ _ _ c.offset.ensures 2 (2 * c.args.i) _ (c.from.ensures ∙ (rw l.2 at c.two.ensures)))
