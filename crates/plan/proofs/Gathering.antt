@@ -9,7 +9,7 @@ use lib.Arith.{digits_lt}
 use lib.ListN.{length, get_or, set, length-set, get_or-append}
 use lib.Seq.{get_or-append_seam}
 use mir.Val.{Fits}
-use mir.Syntax.{w64}
+use mir.Syntax.{w32, w64}
 use Rattle.table.specs.Table.{max_arrays}
 use Rattle.grid.specs.Clauses.{grid_of, grid_cell, Ready}
 use Rattle.table.specs.Clauses.{IsTable}
@@ -55,8 +55,8 @@ module _ {r c d : ℕ} {g : List ℕ} {w k : ℕ} {e weights counts : List ℕ} 
   start_fits = record { fits = omega (arith, ends) }
 
   module _ {a : List ℕ} {x : ℕ} {e' : List ℕ} (u : RoundDone w e a x e') where
-    pub weight_fits : x ≤ 4294967295
-    weight_fits = omega (arith, weight_most o.reached wp u, weight_left o.reached)
+    pub weight_fits : Fits w32 x
+    weight_fits = record { fits = omega (arith, weight_most o.reached wp u, weight_left o.reached) }
 
     pub array_ready : Ready a r c (length counts) (k * (r * c))
     array_ready = rounding_ready o.reached.table _ (rounds_table_lem o.reached wp) (array_is o.reached wp u) (omega (arith, ends, o.counts_len))
@@ -65,7 +65,7 @@ module _ {r c d : ℕ} {g : List ℕ} {w k : ℕ} {e weights counts : List ℕ} 
     count_is j h = ap (λ (l : List ℕ). grid_cell l c j) (array_is o.reached wp u) ∙ cell_of_grid (array_shape o.reached wp) j h
 
     -- one array more
-    module _ {v : ℕ} (ve : v ≡ x) {counts' : List ℕ} (f : Filled (grid_cell a c) (k * (r * c)) counts counts' (r * c)) where
+    module _ {counts' : List ℕ} (f : Filled (grid_cell a c) (k * (r * c)) counts counts' (r * c)) where
       abbrev done' : List Weighted
       done' = o.reached.done ++ (next_weighted o.reached.progress wp ∷ [])
 
@@ -75,11 +75,11 @@ module _ {r c d : ℕ} {g : List ℕ} {w k : ℕ} {e weights counts : List ℕ} 
       at_new : array_at done' k ≡ next_weighted o.reached.progress wp
       at_new = ap (λ (j : ℕ). array_at done' j) (sym o.reached.progress.count) ∙ get_or-append_seam o.reached.done _ [] _
 
-      weights' : (i : ℕ) → i < k + 1 → get_or (set weights k v) i 0 ≡ (array_at done' i).weight
+      weights' : (i : ℕ) → i < k + 1 → get_or (set weights k x) i 0 ≡ (array_at done' i).weight
       unfolding next_weighted
-      weights' = each_more (λ i y. y ≡ (array_at done' i).weight) weights k v (omega (arith, room, o.weights_len))
+      weights' = each_more (λ i y. y ≡ (array_at done' i).weight) weights k x (omega (arith, room, o.weights_len))
           (λ i h. o.weight_at_is i h ∙ ap (λ (y : Weighted). y.weight) (sym (at_old i h)))
-          (ve ∙ weight_is o.reached wp u ∙ ap (λ (y : Weighted). y.weight) (sym at_new))
+          (weight_is o.reached wp u ∙ ap (λ (y : Weighted). y.weight) (sym at_new))
 
       counts_at : (i j : ℕ) → i < k + 1 → j < r * c → get_or counts' (i * (r * c) + j) 0 ≡ get_or (array_at done' i).counts j 0
       unfolding next_weighted next_array
@@ -94,11 +94,11 @@ module _ {r c d : ℕ} {g : List ℕ} {w k : ℕ} {e weights counts : List ℕ} 
               let q : i ≡ k = omega arith in
               rw q (f.inside j l ∙ count_is j l ∙ ap (λ (y : Weighted). get_or y.counts j 0) (sym at_new))
 
-      pub gathered_step : Gathered r c d g (w - x) (k + 1) e' (set weights k v) counts'
+      pub gathered_step : Gathered r c d g (w - x) (k + 1) e' (set weights k x) counts'
       unfolding reached_step
       gathered_step = record {
         reached = reached_step o.reached wp u;
-        weights_len = length-set weights k v ∙ o.weights_len;
+        weights_len = length-set weights k x ∙ o.weights_len;
         counts_len = f.len ∙ o.counts_len;
         weight_at_is = weights';
         count_at_is = counts_at;

@@ -13,14 +13,15 @@ pub fn gather(t: Table, cells: &[u32], weights: &mut [u32], counts: &mut [u16]) 
 {
     let mut e = entries(t, cells);
     let mut w = t.denominator;
-    let mut k: usize = 0;
+    let mut k = 0;
+    // stays: the rounds end where no weight is left; a `for` over the places for weights would return inside the loop and after it, which is no plainer
     while w > 0 {
         let mut n = [0u64; 169];
         let x = one_round(&mut e, w, &mut n);
         weights[k] = x as u32;
         write_cells(&n, t.rows, t.columns, counts, k * (t.rows * t.columns));
-        w = w - x;
-        k = k + 1;
+        w -= x;
+        k += 1;
     }
     k
 }

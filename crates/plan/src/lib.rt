@@ -12,8 +12,8 @@ use crate::gather::gather;
 use form::Sizes;
 use form::layout::plan_length;
 use refusals::Refusal;
-use table::check::check;
 use table::Table;
+use table::check::check;
 use writing::write;
 
 mod gather;
@@ -46,7 +46,13 @@ fn plan_table(t: Table, cells: &[u32], plan: &mut [u8]) -> Result<u32, Refusal>
 }
 
 // Writes the stored plan of a table and returns its length, or the lowest refusal that applies.
-pub fn plan(rows: u32, columns: u32, denominator: u32, cells: &[u32], plan: &mut [u8]) -> Result<u32, Refusal>
+pub fn plan(
+    rows: u32,
+    columns: u32,
+    denominator: u32,
+    cells: &[u32],
+    plan: &mut [u8],
+) -> Result<u32, Refusal>
     ensures { PlanAnswers rows columns denominator cells.now plan.old result plan.new }
 {
     let t = check(rows, columns, denominator, cells)?;
@@ -57,10 +63,7 @@ pub fn plan(rows: u32, columns: u32, denominator: u32, cells: &[u32], plan: &mut
 pub fn planned_number(r: Result<u32, Refusal>) -> u32
     ensures { result ≡ planned_number r }
 {
-    match r {
-        Ok(n) => n,
-        Err(x) => u32::from(x),
-    }
+    r.unwrap_or_else(u32::from)
 }
 
 // What the plan of every accepted table keeps; and the literal calls are as stated, with 7 beside each other refusal.

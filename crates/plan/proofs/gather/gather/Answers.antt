@@ -13,8 +13,8 @@ one_round-x-requires c =
     let o = c.loop-w.invariant in
     record { grid = entries_left o.reached; some = c.loop-w-test.true; small = weight_left o.reached; len = refl }
 
-pub u64_to_u32-requires : goal.u64_to_u32-requires
-u64_to_u32-requires c = search (rules, weight_fits)
+pub overflow_cast-weights : goal.overflow_cast-weights
+overflow_cast-weights c = search (rules, weight_fits)
 
 pub offset_bounds-weights-k : goal.offset_bounds-weights-k
 offset_bounds-weights-k c = search (rules, weights_scaled)
