@@ -20,10 +20,10 @@ use Rattle.opening.specs.Open.{Opens}
 use Rattle.opening.proofs.Opening.{opens_answer}
 use Rattle.covariances.specs.declared.Extremes.{Extremes}
 use Rattle.covariances.specs.Covariance.{at, weighted_products, covariance, cell_covariance, smaller, larger, extreme, covariances, lift}
-use Rattle.covariances.specs.Clauses.{lifted_pair, lifted_pairs, CellsReady, ExtremesOf, widest, Extremal}
+use Rattle.covariances.specs.Clauses.{lifted_pair, lifted_pairs, ExtremesOf, widest, Extremal}
 use Rattle.base.proofs.Differences.{sub_below, sub_above, sub_same}
 use Rattle.covariances.proofs.Lifting.{scaled_small, product_small, lifted_small}
-use Rattle.covariances.proofs.Products.{pair_liftable, cells_many}
+use Rattle.covariances.proofs.Products.{CellsReady, pair_liftable, cells_many}
 
 -- what was lifted, as it was
 abbrev low : ℕ → ℤ

@@ -1,12 +1,12 @@
 -- The covariances of one cell with those before it, from the sums of its row. Assumes nothing.
+use Rattle.std.specs.Prelude.{Ok}
 use mathlib.Core.Path.{◌≡◌, refl, sym, ap, ◌∙◌}
-use mathlib.Core.List.{List, [], foldl}
+use mathlib.Core.List.{List, []}
 use Prim.Native.Nat.{ℕ, ◌+◌, ◌*◌, ◌<◌, ◌≤◌, min, max}
 use native.Mathlib.Nat.{mul_assoc}
 use native.Mathlib.Omega.{arith}
-use lib.ListN.{length, get_or, replicate, length-replicate}
+use lib.ListN.{length, get_or, replicate}
 use Rattle.base.specs.Lists.{tabulate, sum_to, join_to}
-use Rattle.base.specs.Clauses.{Widened}
 use Rattle.base.proofs.Lists.{tabulate_ext}
 use Rattle.base.proofs.Sums.{sum_ext, sum_places}
 use Rattle.form.specs.declared.Sizes.{Sizes}
@@ -16,16 +16,21 @@ use Rattle.reading.specs.Clauses.{Sized}
 use Rattle.reading.proofs.Readings.{cells_length, decode_few}
 use Rattle.reading.proofs.Sizing.{sized_some, sized_denominator, denominator_is}
 use Rattle.weighted_arrays.specs.Clauses.{SumsTo}
+use Rattle.opening.specs.Open.{open_answer}
 use Rattle.opening.proofs.Opening.{is_open, opened_sized}
 use Rattle.opening.proofs.Sound.{Sound, sound}
 use Rattle.weighted_arrays.proofs.Weighting.{sums_none}
 use Rattle.covariances.specs.declared.Extremes.{Extremes}
 use Rattle.covariances.specs.Covariance.{at, weighted_products, lift}
-use Rattle.covariances.specs.Clauses.{KeepReady, factors, RowReady, Liftable, lifted_row, ExtremesReady, ExtremesOf, lifted_pair, lifted_pairs, CellsReady, RowsReady, RowAt, widest}
+use Rattle.covariances.specs.Clauses.{factors, RowReady, Liftable, lifted_row, ExtremesReady, ExtremesOf, lifted_pair, lifted_pairs, RowsReady, RowAt, widest}
 use Rattle.covariances.proofs.Counts.{products_most}
 use Rattle.covariances.proofs.Folds.{joined_more}
 
 -- an opened plan with its cells
+pub record CellsReady (s : Sizes) (b cells : List ℕ) : Type 0 where
+  pub is_open : open_answer b ≡ Ok s
+  pub cells_are : cells ≡ (decode b).cells
+
 module _ {s : Sizes} {b cells : List ℕ} (r : CellsReady s b cells) where
   abbrev p : Plan
   p = decode b
@@ -56,30 +61,26 @@ module _ {s : Sizes} {b cells : List ℕ} (r : CellsReady s b cells) where
         second = omega (arith, ready_sound.meets.within j (omega (arith, ready_sound.cells)));
       }
 
-  pub keep_ready : KeepReady s b (replicate 24480 0)
-  keep_ready = record { sized = ready_sized; room = length-replicate {A = ℕ} 24480 0 }
-
 -- the sums of a row are the weighted products of its pairs
 products_are : (l : List Weighted) (a b : ℕ) → sum_to (length l) (λ j. factors l a j * get_or (array_at l j).counts b 0) ≡ weighted_products l (at a) (at b)
 products_are l a b =
     sum_ext (length l) _ _ (λ j h. mul_assoc (array_at l j).weight _ _)
     ∙ sym (sum_places (λ (x : Weighted). x.weight * (get_or x.counts a 0 * get_or x.counts b 0)) l (record { weight = 0; counts = [] }))
 
-module _ {s : Sizes} {b cells counts : List ℕ} {a : ℕ} (r : RowAt s b cells counts a) where
+module _ {s : Sizes} {b cells : List ℕ} {counts : List (List ℕ)} {a : ℕ} (o : open_answer b ≡ Ok s) (r : RowAt b cells counts a) where
   ready : CellsReady s b cells
-  ready = r.rows.ready
+  ready = record { is_open = o; cells_are = r.rows.cells_are }
 
-  pub row_ready : RowReady s b counts a (replicate 144 0)
+  pub row_ready : RowReady b counts a (replicate 144 0)
   row_ready = record {
-    is_open = ready.is_open;
     kept = r.rows.kept;
     there = r.there;
     empty = sums_none _ _ a (omega (arith, r.there, cells_many ready, cells_few ready));
   }
 
-  module _ {sums : List ℕ} (t : SumsTo (factors (decode b).arrays a) (decode b).arrays a (length (decode b).arrays) sums) {d : ℕ} (e : Widened 4294967296 s.denominator d) where
+  module _ {sums : List ℕ} (t : SumsTo (factors (decode b).arrays a) (decode b).arrays a (length (decode b).arrays) sums) {d : ℕ} (e : d ≡ s.denominator) where
     is_denominator : d ≡ (decode b).denominator
-    is_denominator = e.is ∙ sym (denominator_is (ready_sized ready))
+    is_denominator = e ∙ sym (denominator_is (ready_sized ready))
 
     sum_is : (j : ℕ) → j < a → get_or sums j 0 ≡ weighted_products (decode b).arrays (at a) (at j)
     sum_is j h = t.is j h ∙ products_are (decode b).arrays a j
@@ -96,27 +97,27 @@ module _ {s : Sizes} {b cells counts : List ℕ} {a : ℕ} (r : RowAt s b cells 
     row_is m = rw (tabulate_ext a (lifted_row d cells a sums) (lifted_pair (decode b) a) (λ j h. rw (is_denominator, sum_is j h, ready.cells_are) refl)) at m
 
 -- the pairs of the first n cells are taken together
-pub record RowsTo (p : Plan) (n low high : ℕ) : Type 0 where
-  pub low_is : low ≡ foldl min (2 * lift) (lifted_pairs p n)
-  pub high_is : high ≡ foldl max 0 (lifted_pairs p n)
+abbrev pub RowsTo : Plan → ℕ → Extremes → Type 0
+RowsTo p n e = ExtremesOf widest (lifted_pairs p n) e
 
-pub rows_none : (p : Plan) → RowsTo p 0 (2 * lift) 0
+pub rows_none : (p : Plan) → RowsTo p 0 widest
 unfolding lifted_pairs join_to
-rows_none p = record { low_is = refl; high_is = refl }
+rows_none p = record { low = refl; high = refl }
 
-pub rows_at : {s : Sizes} {b cells counts : List ℕ} → RowsReady s b cells counts → {a n : ℕ} → a < n → n ≡ length cells → RowAt s b cells counts a
-rows_at r h e = record { rows = r; there = omega (arith, cells_many r.ready) }
+-- and there is a cell for each place
+module _ {s : Sizes} {b cells : List ℕ} {counts : List (List ℕ)} (o : open_answer b ≡ Ok s) (r : RowsReady b cells counts) where
+  many : length cells ≡ cell_count (decode b)
+  many = let ready : CellsReady s b cells = record { is_open = o; cells_are = r.cells_are } in cells_many ready
 
-pub rows_more : {p : Plan} {n low high : ℕ} → RowsTo p n low high → {e : Extremes}
-    → ExtremesOf (record { low = low; high = high }) (tabulate n (lifted_pair p n)) e → RowsTo p (n + 1) e.low e.high
+  pub rows_at : {a n : ℕ} → a < n → n ≡ length cells → RowAt b cells counts a
+  rows_at h e = record { rows = r; there = omega (arith, many) }
+
+  pub rows_all : {a n : ℕ} {e : Extremes} → RowsTo (decode b) a e → a ≤ n → n ≤ a → n ≡ length cells → RowsTo (decode b) (cell_count (decode b)) e
+  rows_all {a} t h g e = let q : cell_count (decode b) ≡ a = omega (arith, many) in rw q t
+
+pub rows_more : (p : Plan) (n : ℕ) {x : Extremes} → RowsTo p n x → {y : Extremes} → ExtremesOf x (tabulate n (lifted_pair p n)) y → RowsTo p (n + 1) y
 unfolding lifted_pairs
-rows_more {p} {n} r {e} m = record {
-  low_is = joined_more min (2 * lift) (λ a. tabulate a (lifted_pair p a)) n _ _ r.low_is m.low;
-  high_is = joined_more max 0 (λ a. tabulate a (lifted_pair p a)) n _ _ r.high_is m.high;
+rows_more p n r m = record {
+  low = joined_more min (2 * lift) (λ a. tabulate a (lifted_pair p a)) n _ _ r.low m.low;
+  high = joined_more max 0 (λ a. tabulate a (lifted_pair p a)) n _ _ r.high m.high;
 }
-
-pub rows_all : {s : Sizes} {b cells counts : List ℕ} → RowsReady s b cells counts → {a n low high : ℕ} → RowsTo (decode b) a low high
-    → a ≤ n → n ≤ a → n ≡ length cells → ExtremesOf widest (lifted_pairs (decode b) (cell_count (decode b))) (record { low = low; high = high })
-rows_all {b = b} r {a} t h g e =
-    let q : cell_count (decode b) ≡ a = omega (arith, cells_many r.ready) in
-    rw q (record { low = t.low_is; high = t.high_is })

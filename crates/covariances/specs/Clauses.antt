@@ -1,15 +1,12 @@
 -- Covariances as the code holds them, lifted, so that none is below zero; and what the functions inside require and promise. Assumes nothing.
-use Rattle.std.specs.Prelude.{◌≡◌, ℕ, ◌+◌, ◌-◌, ◌*◌, ◌≤◌, ◌<◌, min, max, length, get_or, Ok}
-use mathlib.Core.List.{List, foldl}
+use Rattle.std.specs.Prelude.{◌≡◌, ℕ, ◌+◌, ◌-◌, ◌*◌, ◌≤◌, ◌<◌, min, max, length, get_or}
+use mathlib.Core.List.{List, [], foldl}
 use Rattle.std.proofs.Math.IntN.{sub_ℕ}
 use Rattle.base.specs.Lists.{tabulate, join_to}
 use Rattle.table.specs.Table.{max_denominator}
 use Rattle.weighted_arrays.specs.Plan.{Plan, Weighted, array_at, cell_count}
 use Rattle.weighted_arrays.specs.Clauses.{SumsTo}
-use Rattle.form.specs.declared.Sizes.{Sizes}
 use Rattle.form.specs.Form.{decode}
-use Rattle.reading.specs.Clauses.{Sized}
-use Rattle.opening.specs.Open.{open_answer}
 use Rattle.covariances.specs.declared.Extremes.{Extremes}
 use Rattle.covariances.specs.Covariance.{at, weighted_products, lift, covariances, smallest, largest}
 
@@ -17,27 +14,16 @@ use Rattle.covariances.specs.Covariance.{at, weighted_products, lift, covariance
 abbrev pub lifted : ℕ → ℕ → ℕ → ℕ → ℕ
 lifted d s x y = d * s + lift - x * y
 
--- room for the counts of all arrays: 170 of 144
-abbrev pub max_counts : ℕ
-max_counts = 24480
-
--- the counts of the first k arrays stand one array after another, count i of array j at 144·j + i; each has n counts
-pub record Kept (l : List Weighted) (n k : ℕ) (counts : List ℕ) : Type 0 where
-  pub len : length counts ≡ max_counts
-  pub is : (j i : ℕ) → j < k → i < n → get_or counts (144 * j + i) 0 ≡ get_or (array_at l j).counts i 0
-
--- a plan that is laid out, and the room
-pub record KeepReady (s : Sizes) (b counts : List ℕ) : Type 0 where
-  pub sized : Sized s b
-  pub room : length counts ≡ max_counts
+-- the counts of the first k arrays, each with n counts
+pub record Kept (l : List Weighted) (n k : ℕ) (counts : List (List ℕ)) : Type 0 where
+  pub is : (j i : ℕ) → j < k → i < n → get_or (get_or counts j []) i 0 ≡ get_or (array_at l j).counts i 0
 
 -- the weight of each array times its count at place a
 abbrev pub factors : List Weighted → ℕ → ℕ → ℕ
 factors l a j = (array_at l j).weight * get_or (array_at l j).counts a 0
 
--- an opened plan with the counts of its arrays, a place, and sums that hold nothing yet
-pub record RowReady (s : Sizes) (b counts : List ℕ) (a : ℕ) (sums : List ℕ) : Type 0 where
-  pub is_open : open_answer b ≡ Ok s
+-- the counts of a plan's arrays, a place, and sums that hold nothing yet
+pub record RowReady (b : List ℕ) (counts : List (List ℕ)) (a : ℕ) (sums : List ℕ) : Type 0 where
   pub kept : Kept (decode b).arrays (cell_count (decode b)) (length (decode b).arrays) counts
   pub there : a < cell_count (decode b)
   pub empty : SumsTo (factors (decode b).arrays a) (decode b).arrays a 0 sums
@@ -78,18 +64,14 @@ lifted_pair p a b = lifted p.denominator (weighted_products p.arrays (at a) (at 
 unfoldable pub lifted_pairs : Plan → ℕ → List ℕ
 lifted_pairs p n = join_to n (λ a. tabulate a (lifted_pair p a))
 
--- an opened plan with its cells; and with the counts of its arrays
-pub record CellsReady (s : Sizes) (b cells : List ℕ) : Type 0 where
-  pub is_open : open_answer b ≡ Ok s
+-- a plan's cells, and the counts of its arrays
+pub record RowsReady (b cells : List ℕ) (counts : List (List ℕ)) : Type 0 where
   pub cells_are : cells ≡ (decode b).cells
-
-pub record RowsReady (s : Sizes) (b cells counts : List ℕ) : Type 0 where
-  pub ready : CellsReady s b cells
   pub kept : Kept (decode b).arrays (cell_count (decode b)) (length (decode b).arrays) counts
 
 -- and a place
-pub record RowAt (s : Sizes) (b cells counts : List ℕ) (a : ℕ) : Type 0 where
-  pub rows : RowsReady s b cells counts
+pub record RowAt (b cells : List ℕ) (counts : List (List ℕ)) (a : ℕ) : Type 0 where
+  pub rows : RowsReady b cells counts
   pub there : a < cell_count (decode b)
 
 -- before the first pair: no lifted covariance is above the one or below the other

@@ -3,30 +3,30 @@ ghost use Rattle.std.specs.Prelude.{length};
 ghost use Rattle.weighted_arrays.specs.Plan.{cell_count};
 ghost use Rattle.form.specs.Form.{decode};
 ghost use Rattle.weighted_arrays.specs.Clauses.{SumsTo};
-ghost use Rattle.covariances.specs.Clauses.{KeepReady, Kept, RowReady, factors};
+ghost use Rattle.covariances.specs.Clauses.{Kept, RowReady, factors};
 
-use form::Sizes;
-use reading::{read_array, weight};
+use opening::open::OpenPlan;
+use reading::LaidOut;
 use weighted_arrays::add_weighted;
 
 // Reads the counts of all arrays, one array after another, so that each is read once.
-pub fn keep_counts(plan: &[u8], s: Sizes, counts: &mut [u16])
-    requires { KeepReady s plan.now counts.old }
-    ensures { Kept (decode plan.now).arrays (cell_count (decode plan.now)) (length (decode plan.now).arrays) counts.new }
+pub fn keep_counts(plan: &LaidOut, counts: &mut [[u16; 144]; 170])
+    ensures { Kept (decode plan.now.bytes.now).arrays (cell_count (decode plan.now.bytes.now))
+        (length (decode plan.now.bytes.now).arrays) counts.new }
 {
-    for k in 0..s.arrays {
-        read_array(plan, k, &mut counts[144 * k..144 * k + 144]);
+    for (k, array) in counts[..plan.sizes.arrays].iter_mut().enumerate() {
+        plan.read_array(k, array);
     }
 }
 
 // Adds up the products of the cell at place a and of each before it.
-pub fn row_sums(plan: &[u8], s: Sizes, counts: &[u16], a: usize, sums: &mut [u64; 144])
-    requires { RowReady s plan.now counts.now a sums.old }
-    ensures { SumsTo (factors (decode plan.now).arrays a) (decode plan.now).arrays a (length (decode plan.now).arrays) sums.new }
+pub fn row_sums(plan: &OpenPlan, counts: &[[u16; 144]; 170], a: usize, sums: &mut [u64; 144])
+    requires { RowReady plan.now.plan.bytes.now counts.now a sums.old }
+    ensures { SumsTo (factors (decode plan.now.plan.bytes.now).arrays a) (decode plan.now.plan.bytes.now).arrays a
+        (length (decode plan.now.plan.bytes.now).arrays) sums.new }
 {
-    for k in 0..s.arrays {
-        let at = 144 * k;
-        let factor = weight(plan, k) * u32::from(counts[at + a]);
-        add_weighted(factor, &counts[at..at + a], sums);
+    for (k, array) in counts[..plan.plan.sizes.arrays].iter().enumerate() {
+        let factor = plan.plan.weight(k) * u32::from(array[a]);
+        add_weighted(factor, &array[..a], sums);
     }
 }

@@ -1,4 +1,3 @@
-use Prim.Native.Nat.{◌≤◌}
 use mathlib.Core.Path.{◌≡◌}
 use lib.ListN.{length}
 use Rattle.form.specs.Form.{decode}
@@ -6,4 +5,4 @@ use Rattle.covariances.proofs.Products.{RowsTo}
 use Rattle.covariances.proofs.pairs.all_pairs.Given as goal
 
 abbrev pub invariant-loop-a : goal.invariant-loop-a
-invariant-loop-a l = (l.a ≤ l.a-end) × (l.a-end ≡ length l.cells) × RowsTo (decode l.plan) l.a l.low l.high
+invariant-loop-a l = (l.a-end ≡ length l.cells) × RowsTo (decode l.plan.plan.bytes.now) l.a l.e

@@ -1,7 +1,9 @@
-use Prim.Native.Nat.{◌≤◌, min, max}
-use Rattle.covariances.specs.Clauses.{lifted_row}
-use Rattle.covariances.proofs.Folds.{FoldedTo}
+use Rattle.std.proofs.Common.{length}
+use Rattle.std.specs.Iterator.Adapters.{zip_first, zip_second}
+use Rattle.std.specs.Slice.Iter.{iter_rest}
+use Rattle.covariances.proofs.RowLoop.{RowTo}
 use Rattle.covariances.proofs.pairs.row_extremes.Given as goal
 
-abbrev pub invariant-loop-b : goal.invariant-loop-b
-invariant-loop-b l = (l.b ≤ l.a) × FoldedTo min l.initial.low (lifted_row l.d l.cells l.a l.sums) l.b l.low × FoldedTo max l.initial.high (lifted_row l.d l.cells l.a l.sums) l.b l.high
+abbrev pub invariant-loop-products : goal.invariant-loop-products
+invariant-loop-products l =
+    RowTo l.d l.cells l.a l.sums l.initial.e (iter_rest (zip_first l.products-iterator)) (iter_rest (zip_second l.products-iterator)) (length l.yielded) l.e

@@ -1,27 +1,28 @@
-use mathlib.Core.Path.{refl, sym}
+use Prim.Native.Nat.{◌<◌}
 use native.Mathlib.Omega.{arith}
+use lib.ListN.{length, length-take}
+use borrow.Author.Rules.{rules}
+use Rattle.form.specs.Form.{decode}
 use Rattle.reading.proofs.Readings.{counts_length}
-use Rattle.reading.proofs.Sizing.{arrays_are, cells_are, sized_arrays, sized_few, has_counts}
-use Rattle.covariances.proofs.Rows.{kept_none, part_length, kept_more}
+use Rattle.reading.proofs.Sizing.{arrays_are, sized_arrays, sized_few}
+use Rattle.covariances.proofs.Rows.{kept_none, kept_more, kept_all}
 use Rattle.covariances.proofs.sums.keep_counts.Goals as goal
 
 pub loop-k-init : goal.loop-k-init
-loop-k-init c =
-    let pre = c.requires in
-    (omega arith, sized_arrays pre.sized, sym (arrays_are pre.sized), kept_none _ _ pre.room)
+loop-k-init c = kept_none _ _ _
 
-pub read_array-requires : goal.read_array-requires
-read_array-requires c =
-    let loop = c.loop-k.invariant in
-    let sized = c.requires.sized in
-    has_counts sized c.loop-k-test.true (omega (arith, part_length loop.3 (omega (arith, loop.1)), sized_few sized))
+pub slice_bounds-array-items-end : goal.slice_bounds-array-items-end
+slice_bounds-array-items-end c = search (rules, sized_arrays)
+
+pub read_array-requires-clause-room : goal.read_array-requires-clause-room
+read_array-requires-clause-room c = search (rules, sized_few)
 
 pub loop-k-preserved : goal.loop-k-preserved
 loop-k-preserved c =
-    let loop = c.loop-k.invariant in
-    let sized = c.requires.sized in (
-      omega arith,
-      loop.1,
-      loop.2,
-      kept_more loop.3 (omega (arith, loop.1)) refl (counts_length _ _ (omega (arith, loop.2))) (omega (arith, cells_are sized, sized_few sized)) c.read_array.ensures,
-    )
+    let laid_out = c.args.plan.now.laid_out in
+    let there : c.loop-k.k < length (decode c.args.plan.now.bytes.now).arrays =
+    omega (arith, arrays_are laid_out, length-take c.args.plan.now.sizes.arrays c.args.counts.now) in
+    kept_more c.loop-k.invariant (omega (arith, c.loop-k.auto.array-items)) _ _ c.read_array.ensures (counts_length _ _ there)
+
+pub returns : goal.returns
+returns c = search (rules, kept_all, arrays_are)
