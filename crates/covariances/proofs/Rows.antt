@@ -19,11 +19,11 @@ use Rattle.form.specs.Form.{decode}
 use Rattle.reading.specs.Clauses.{Sized}
 use Rattle.reading.proofs.Readings.{decode_few}
 use Rattle.reading.proofs.Sizing.{arrays_are, sized_arrays, sized_denominator, denominator_is}
-use Rattle.weighted_arrays.specs.Clauses.{SumsTo, Addable, Increased}
+use Rattle.weighted_arrays.specs.Clauses.{SumsTo, Increased}
 use Rattle.opening.specs.Open.{open_answer}
 use Rattle.opening.proofs.Opening.{is_open, opened_sized}
 use Rattle.opening.proofs.Opens.{weights_add_up}
-use Rattle.weighted_arrays.proofs.Weighting.{sums_addable, sums_more_at}
+use Rattle.weighted_arrays.proofs.Weighting.{sums_more_at}
 use Rattle.covariances.specs.Clauses.{Kept, factors, RowReady}
 
 -- the counts of all arrays, array by array
