@@ -13,23 +13,15 @@ ghost use Rattle.variances.specs.Clauses.{numerators_of, WriteReady};
 use crate::Numerators;
 use crate::measure::measure;
 use covariances::LIFT;
-use opening::open::open;
+use opening::open::open_plan;
 use refusals::Refusal;
-
-// The one number less the other, with its sign.
-fn difference(x: i64, y: i64) -> i64
-    requires { SFits w64 (x -ℤ y) }
-    ensures { result ≡ x -ℤ y }
-{
-    x - y
-}
 
 // A covariance that is lifted no more.
 fn lowered(x: u64) -> i64
     requires { x ≤ 2 * lift }
     ensures { result ≡ sub_ℕ x lift }
 {
-    difference(x as i64, LIFT as i64)
+    x as i64 - LIFT as i64
 }
 
 // Writes the three numerators.
@@ -37,12 +29,11 @@ fn write_numerators(n: Numerators, out: &mut [i64])
     requires { WriteReady n out.old }
     ensures { out.new ≡ numerators_of n ++ drop 3 out.old }
 {
-    let variances = n.variances as i64;
-    let smallest = lowered(n.smallest);
-    let largest = lowered(n.largest);
-    out[0] = variances;
-    out[1] = smallest;
-    out[2] = largest;
+    out[..3].copy_from_slice(&[
+        n.variances as i64,
+        lowered(n.smallest),
+        lowered(n.largest),
+    ]);
 }
 
 // Writes the sum of all cell variances, the smallest and the largest covariance of two different cells, or returns the lowest refusal that applies.
@@ -50,11 +41,10 @@ pub fn variances(plan: &[u8], out: &mut [i64]) -> Result<(), Refusal>
     ensures { Answers (part_refusal plan.now 3 (length out.old))
         (numerators (decode plan.now) ++ drop 3 out.old) out.old result out.new }
 {
-    let s = open(plan)?;
+    let open = open_plan(plan)?;
     if out.len() < 3 {
         return Err(Refusal::Buffer);
     }
-    let n = measure(plan, s);
-    write_numerators(n, out);
+    write_numerators(measure(&open), out);
     Ok(())
 }

@@ -1,12 +1,11 @@
-use Rattle.base.proofs.SumLoops.{summed_none, summed_more}
-use native.Mathlib.Omega.{arith}
+use mathlib.Core.Path.{◌≡◌}
+use Rattle.std.specs.List.{sum_by}
 use borrow.Author.Rules.{rules}
+use Rattle.variances.specs.Variance.{rounding_variance}
+use Rattle.variances.proofs.Measuring.{variances_added}
 use Rattle.variances.proofs.measure.cell_variances.Goals as goal
 
-pub loop-i-init : goal.loop-i-init
-loop-i-init c = search (rules, summed_none)
-
-pub loop-i-preserved : goal.loop-i-preserved
-loop-i-preserved c =
-    let loop = c.loop-i.invariant in
-    (omega arith, loop.1, summed_more loop.2 _ c.cell_variance-sum.ensures.is c.cell_variance-sum.ensures.small)
+pub returns : goal.returns
+returns c =
+    let added : c.sum.result ≡ sum_by (rounding_variance c.args.d) c.args.cells.now = search rules in
+    variances_added c.requires.denominator c.requires.few added
