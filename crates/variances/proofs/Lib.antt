@@ -1,6 +1,5 @@
 mod Covariances
 mod Extremes
 mod Measuring
-mod Signs
 mod Answering
 mod Examples

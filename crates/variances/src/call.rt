@@ -29,11 +29,7 @@ fn write_numerators(n: Numerators, out: &mut [i64])
     requires { WriteReady n out.old }
     ensures { out.new ≡ numerators_of n ++ drop 3 out.old }
 {
-    out[..3].copy_from_slice(&[
-        n.variances as i64,
-        lowered(n.smallest),
-        lowered(n.largest),
-    ]);
+    out[..3].copy_from_slice(&[n.variances as i64, lowered(n.smallest), lowered(n.largest)]);
 }
 
 // Writes the sum of all cell variances, the smallest and the largest covariance of two different cells, or returns the lowest refusal that applies.
@@ -41,10 +37,10 @@ pub fn variances(plan: &[u8], out: &mut [i64]) -> Result<(), Refusal>
     ensures { Answers (part_refusal plan.now 3 (length out.old))
         (numerators (decode plan.now) ++ drop 3 out.old) out.old result out.new }
 {
-    let open = open_plan(plan)?;
+    let opened = open_plan(plan)?;
     if out.len() < 3 {
         return Err(Refusal::Buffer);
     }
-    write_numerators(measure(&open), out);
+    write_numerators(measure(&opened), out);
     Ok(())
 }
