@@ -7,16 +7,21 @@ use native.Mathlib.Nat.{mul-le-mul, mul-le-mul_right, one-le-mul}
 use native.Mathlib.Numerals.{add-one}
 use native.Mathlib.Omega.{arith}
 use lib.ListN.{length}
+use Rattle.std.specs.Bool.{MatchBool}
+use Rattle.std.specs.List.{AllWithin, HoldsAt, range_with_len}
+use Rattle.std.proofs.lemmas.List.FromFn.{length-range_with_len, get_or-range_with_len}
+use native.Mathlib.Nat.{zero-add}
 use lib.Dec.{eqb}
 use mir.Val.{Fits}
 use mir.Syntax.{w64}
 use borrow.Author.Tests.{eq-eqb, ne_eqb, eqb-true, not-true, not-false}
 use Rattle.base.proofs.Lists.{and_left, and_right}
-use Rattle.base.proofs.Every.{Passed, passed_more, every_not, every_elim}
+use Rattle.base.specs.Lists.{every}
+use Rattle.base.proofs.Every.{every_intro, every_not, every_elim}
 use Rattle.table.specs.Check.{up_to}
 use Rattle.table.proofs.Checks.{up_to_low, up_to_high}
 use Rattle.form.specs.declared.Sizes.{Sizes}
-use Rattle.form.specs.Form.{body_at, plan_length, min_length, max_length, form_of, rows_of, columns_of, arrays_of, zero_of, offset_of, denominator_of, sizes_of, length_of, start_right, head_right, laid_out}
+use Rattle.form.specs.Form.{body_at, plan_length, min_length, max_length, form_of, rows_of, columns_of, arrays_of, zero_of, denominator_of, sizes_of, length_of, start_right, head_right, laid_out}
 use Rattle.form.specs.Clauses.{Bounded, Contents, offsets_right, Laid}
 
 -- where bodies begin, and how long a plan is
@@ -73,45 +78,6 @@ module _ {r c k : ℕ} (s : Bounded r c k) where
   pub offset_fits : (i : ℕ) → i ≤ k → body_at r c k i < 2 ^ 32
   offset_fits zero h = omega (arith, plan_most s)
   offset_fits (suc i) h = omega (arith, plan_most s, within i (omega arith))
-
--- the tests of the first eight bytes, each by itself
-module _ (b : List ℕ) (x : ℕ) where
-  pub bad_form : x ≡ form_of b → (x ≡ 1 → ⊥) → false ≡ start_right b
-  bad_form e h = simp (ne_eqb (form_of b) 1 (λ q. h (e ∙ q)))
-
-  pub bad_zero : x ≡ zero_of b → (x ≡ 0 → ⊥) → false ≡ start_right b
-  bad_zero e h = simp (ne_eqb (zero_of b) 0 (λ q. h (e ∙ q)), and-false)
-
-  module _ (t : Bool) where
-    pub bad_rows : x ≡ rows_of b → t ≡ up_to 12 x → not t ≡ true → false ≡ start_right b
-    bad_rows e q h = simp (ap (up_to 12) (sym e) ∙ sym q ∙ not-true t h, and-false)
-
-    pub bad_columns : x ≡ columns_of b → t ≡ up_to 12 x → not t ≡ true → false ≡ start_right b
-    bad_columns e q h = simp (ap (up_to 12) (sym e) ∙ sym q ∙ not-true t h, and-false)
-
--- all of them passed but the last
-module _ (b : List ℕ) where
-  module _ (f z : ℕ) (fe : f ≡ form_of b) (fh : f ≡ 1) (ze : z ≡ zero_of b) (zh : z ≡ 0) where
-    module _ (r c k : ℕ) (re : r ≡ rows_of b) (ce : c ≡ columns_of b) (ke : k ≡ arrays_of b) where
-      pub start_good : (x y w : Bool) → x ≡ up_to 12 r → not x ≡ false → y ≡ up_to 12 c → not y ≡ false → w ≡ up_to 170 k → w ≡ start_right b
-      start_good x y w xe xh ye yh we = simp (
-        eq-eqb _ _ (sym fe ∙ fh),
-        eq-eqb _ _ (sym ze ∙ zh),
-        ap (up_to 12) (sym re) ∙ sym xe ∙ not-false x xh,
-        ap (up_to 12) (sym ce) ∙ sym ye ∙ not-false y yh,
-        sym ke,
-      )
-          we
-
--- the test of D besides
-module _ (b : List ℕ) (t : Bool) (e : t ≡ start_right b) where
-  pub bad_start : not t ≡ true → false ≡ head_right b
-  unfolding head_right
-  bad_start h = ap (λ x. x && up_to 65535 (denominator_of b)) (sym (not-true t h) ∙ e)
-
-  pub head_good : not t ≡ false → (d : ℕ) → d ≡ denominator_of b → (x : Bool) → x ≡ up_to 65535 d → x ≡ head_right b
-  unfolding head_right
-  head_good h d de x xe = xe ∙ ap (up_to 65535) de ∙ ap (λ y. y && up_to 65535 (denominator_of b)) (sym (not-false t h) ∙ e)
 
 -- what the first eight bytes say if they passed their tests
 pub record Started (b : List ℕ) : Type 0 where
@@ -189,13 +155,15 @@ laid b h =
       offsets = λ i l. eqb-true _ _ (every_elim _ _ (and_right (head_right b && e) o h) i (omega arith));
     }
 
--- a loop over the entries of the contents
-module _ (b : List ℕ) (r c k : ℕ) {i x y : ℕ} (e : x ≡ offset_of b i) (f : y ≡ body_at r c k i) where
-  pub misplaced : {n : ℕ} → n ≡ k + 1 → i < n → (x ≡ y → ⊥) → false ≡ offsets_right b r c k
-  misplaced q l h = every_not _ (k + 1) i (omega arith) (ne_eqb (offset_of b i) (body_at r c k i) (λ p. h (e ∙ p ∙ sym f)))
-
-  pub pointed_more : Passed (λ i. eqb (offset_of b i) (body_at r c k i)) i → x ≡ y → Passed (λ i. eqb (offset_of b i) (body_at r c k i)) (i + 1)
-  pointed_more p h = passed_more p (eq-eqb (offset_of b i) (body_at r c k i) (sym e ∙ h ∙ f))
+-- what `all` over the numbers below n answers
+pub every_by : (f : ℕ → Bool) (n : ℕ) (r : Bool)
+    → MatchBool r (AllWithin (λ i. f i ≡ true) (range_with_len 0 n) 0 (length (range_with_len 0 n)))
+    ((k : ℕ) × (k < length (range_with_len 0 n)) × HoldsAt (λ i. f i ≡ false) (range_with_len 0 n) k)
+    → r ≡ every n f
+every_by f n true h = sym (every_intro f n (λ i l. rw (get_or-range_with_len 0 n i 0 l, zero-add) at (h i 0 (omega arith) (rw (length-range_with_len 0 n) l))))
+every_by f n false h =
+    let l : h.0 < n = rw (length-range_with_len 0 n) at h.1 in
+    every_not f n h.0 l (rw (get_or-range_with_len 0 n h.0 0 l, zero-add) at (h.2 0))
 
 -- the ways through the test of a layout
 pub short : (b : List ℕ) → length b < 16 → false ≡ laid_out b

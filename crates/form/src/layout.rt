@@ -14,9 +14,9 @@ pub fn sizes(plan: &[u8]) -> Sizes
     ensures { result ≡ sizes_of plan.now }
 {
     Sizes {
-        rows: one(plan, 2) as usize,
-        columns: one(plan, 3) as usize,
-        arrays: two(plan, 4) as usize,
+        rows: usize::from(one(plan, 2)),
+        columns: usize::from(one(plan, 3)),
+        arrays: usize::from(two(plan, 4)),
         denominator: four(plan, 8),
     }
 }
@@ -63,19 +63,11 @@ pub fn start_right(plan: &[u8]) -> bool
     requires { 8 ≤ length plan.now }
     ensures { result ≡ start_right plan.now }
 {
-    if two(plan, 0) != 1 {
-        return false;
-    }
-    if two(plan, 6) != 0 {
-        return false;
-    }
-    if !up_to(Table::MAX_ROWS, one(plan, 2) as u32) {
-        return false;
-    }
-    if !up_to(Table::MAX_COLUMNS, one(plan, 3) as u32) {
-        return false;
-    }
-    up_to(Table::MAX_ARRAYS, two(plan, 4) as u32)
+    two(plan, 0) == 1
+        && two(plan, 6) == 0
+        && up_to(Table::MAX_ROWS, u32::from(one(plan, 2)))
+        && up_to(Table::MAX_COLUMNS, u32::from(one(plan, 3)))
+        && up_to(Table::MAX_ARRAYS, u32::from(two(plan, 4)))
 }
 
 // The length that these eight bytes say.
@@ -84,9 +76,9 @@ pub fn length_of(plan: &[u8]) -> usize
     ensures { result ≡ length_of plan.now }
 {
     plan_length(
-        one(plan, 2) as usize,
-        one(plan, 3) as usize,
-        two(plan, 4) as usize,
+        usize::from(one(plan, 2)),
+        usize::from(one(plan, 3)),
+        usize::from(two(plan, 4)),
     )
 }
 
@@ -95,23 +87,15 @@ fn head_right(plan: &[u8]) -> bool
     requires { 16 ≤ length plan.now }
     ensures { result ≡ head_right plan.now }
 {
-    if !start_right(plan) {
-        return false;
-    }
-    up_to(Table::MAX_DENOMINATOR, four(plan, 8))
+    start_right(plan) && up_to(Table::MAX_DENOMINATOR, four(plan, 8))
 }
 
 // Whether each entry of the contents points to its body.
-fn offsets_right(plan: &[u8], rows: usize, columns: usize, arrays: usize) -> bool
-    requires { Contents rows columns arrays plan.now }
-    ensures { result ≡ offsets_right plan.now rows columns arrays }
+fn offsets_right(plan: &[u8], s: Sizes) -> bool
+    requires { Contents s.rows s.columns s.arrays plan.now }
+    ensures { result ≡ offsets_right plan.now s.rows s.columns s.arrays }
 {
-    for i in 0..arrays + 1 {
-        if offset(plan, i) != body_at(rows, columns, arrays, i) {
-            return false;
-        }
-    }
-    true
+    (0..s.arrays + 1).all(|i| offset(plan, i) == body_at(s.rows, s.columns, s.arrays, i))
 }
 
 // Whether the bytes are laid out as form 1 says.
@@ -125,11 +109,5 @@ pub fn laid_out(plan: &[u8]) -> bool
         return false;
     }
     let s = sizes(plan);
-    let rows = s.rows;
-    let columns = s.columns;
-    let arrays = s.arrays;
-    if plan.len() != plan_length(rows, columns, arrays) {
-        return false;
-    }
-    offsets_right(plan, rows, columns, arrays)
+    plan.len() == plan_length(s.rows, s.columns, s.arrays) && offsets_right(plan, s)
 }

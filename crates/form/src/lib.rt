@@ -9,7 +9,7 @@ ghost use Rattle.form.specs.Examples.{stored};
 pub mod layout;
 
 // The sizes of a plan.
-#[derive(Clone, Copy)]
+#[derive(Clone, Copy, Debug, PartialEq, Eq)]
 pub struct Sizes {
     pub rows: usize,
     pub columns: usize,

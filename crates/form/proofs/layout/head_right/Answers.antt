@@ -1,9 +1,11 @@
-use Rattle.form.proofs.Layouts.{bad_start, head_good}
-use borrow.Author.Rules.{rules}
+use Rattle.std.proofs.Common.{rules}
+use Rattle.form.specs.Form.{head_right}
 use Rattle.form.proofs.layout.head_right.Goals as goal
 
-pub returns-then-not-start_right : goal.returns-then-not-start_right
-returns-then-not-start_right c = search (rules, bad_start)
+pub returns-then-start_right : goal.returns-then-start_right
+unfolding head_right
+returns-then-start_right c = search rules
 
-pub returns : goal.returns
-returns c = search (rules, head_good)
+pub returns-else-start_right : goal.returns-else-start_right
+unfolding head_right
+returns-else-start_right c = search rules
