@@ -3,8 +3,9 @@
 
 ghost use Rattle.std.specs.Prelude.{◌≡◌, map, ℕ, ◌<◌, ℤ};
 ghost use Rattle.division.specs.Division.{down, rest, Parts};
-ghost use Rattle.division.specs.Clauses.{Divides};
+ghost use Rattle.division.specs.Clauses.{flip_of, Divides};
 ghost use Rattle.division.specs.Examples.{cases, divided};
+
 
 // An entry over a weight: rounded down, and what is left over, from 0 to below the weight.
 #[derive(Clone, Copy)]
@@ -13,16 +14,31 @@ pub struct Divided {
     pub rest: u64,
 }
 
-// Divides an entry of either sign by a weight. 128 bits hold both, each with its sign.
+// -1 - a, which has a sign just if a has none, and fits for every a.
+fn flip(a: i64) -> i64
+    ensures { result ≡ flip_of a }
+{
+    -1 - a
+}
+
+// Divides an entry of either sign by a weight. Below zero -1 - entry is divided: its quotient, flipped back, is the entry's rounded down.
 pub fn divide(entry: i64, weight: u64) -> Divided
     requires { 0 < weight }
     ensures { Divides weight entry result }
 {
-    let entry = i128::from(entry);
-    let weight = i128::from(weight);
+    if entry < 0 {
+        let below = flip(entry) as u64;
+        let whole = flip((below / weight) as i64);
+        return Divided {
+            whole,
+            rest: weight - 1 - below % weight,
+        };
+    }
+    let natural = entry as u64;
+    let whole = (natural / weight) as i64;
     Divided {
-        whole: entry.div_euclid(weight) as i64,
-        rest: entry.rem_euclid(weight) as u64,
+        whole,
+        rest: natural % weight,
     }
 }
 
