@@ -2,17 +2,16 @@
 use mathlib.Core.Path.{◌≡◌, sym, subst, ◌∙◌, ap}
 use mathlib.Core.Bool.{true, false≢true}
 use Prim.Native.Nat.{ℕ, ◌*◌, ◌/◌, ◌%◌, ◌<◌, ◌≤◌, ◌∣◌}
-use native.Mathlib.Nat.{dvd-mul_left, dvd-mul_right, dvd_trans, pos_of_dvd_of_pos, mul-dvd-mul_left, mul-dvd-mul_right, dvd_of_mul-dvd-mul_left, dvd_of_mul-dvd-mul_right, mul-div_cancel', div-mul_cancel, mul_comm, mul_assoc, div-le_self, mul-le-mul_right, mul-pos, le_of_dvd, lt_of_le_of_lt, mod-eq-zero_of_dvd, dvd_of_mod-eq-zero}
+use native.Mathlib.Nat.{dvd-mul_left, dvd-mul_right, dvd_trans, pos_of_dvd_of_pos, mul-dvd-mul_left, mul-dvd-mul_right, dvd_of_mul-dvd-mul_left, dvd_of_mul-dvd-mul_right, mul-div_cancel', div-mul_cancel, mul_comm, mul_assoc, mul-pos, le_of_dvd, mod-eq-zero_of_dvd, dvd_of_mod-eq-zero}
 use native.Mathlib.Decide.{dec_lt}
 use native.Mathlib.Omega.{arith}
 use lib.Dec.{eqb}
-use mir.Val.{Fits}
-use mir.Syntax.{w64}
 use borrow.Author.Tests.{eq-eqb, eqb-true}
 use Rattle.base.proofs.Lists.{and_left, and_right, and_both}
 use Rattle.base.proofs.Searches.{First, first_found}
+use Rattle.std.specs.Int.{IsGcd}
 use Rattle.multiples.specs.Multiple.{common, least_multiple, LeastMultiple}
-use Rattle.multiples.specs.Clauses.{Greatest, Multipliable}
+use Rattle.multiples.specs.Clauses.{Multipliable}
 use Rattle.multiples.proofs.Divisors.{greatest_exists}
 
 -- the test of a common multiple
@@ -51,33 +50,33 @@ module _ (a b : ℕ) (pa : 0 < a) (pb : 0 < b) where
     least = found_least;
   }
 
-  module _ (g : ℕ) (gr : Greatest a b g) where
+  module _ (g : ℕ) (gr : IsGcd a b g) where
     pub divisor_positive : 0 < g
-    divisor_positive = pos_of_dvd_of_pos gr.first pa
+    divisor_positive = pos_of_dvd_of_pos gr.0 pa
 
     -- (a / g * b) * g is a * b
     times : a / g * b * g ≡ a * b
-    times = mul_assoc (a / g) b g ∙ ap (λ (x : ℕ). a / g * x) (mul_comm b g) ∙ sym (mul_assoc (a / g) g b) ∙ ap (λ (x : ℕ). x * b) (div-mul_cancel g gr.first)
+    times = mul_assoc (a / g) b g ∙ ap (λ (x : ℕ). a / g * x) (mul_comm b g) ∙ sym (mul_assoc (a / g) g b) ∙ ap (λ (x : ℕ). x * b) (div-mul_cancel g gr.0)
 
     -- a * b divides m * g, for a multiple m of both
     into : (m : ℕ) → 0 < m → a ∣ m → b ∣ m → a * b ∣ m * g
     into m pm am bm =
         let e = greatest_exists (m * a) (m * b) in
         let h : ℕ = e.0 in
-        let gh : Greatest (m * a) (m * b) h = e.1 in
-        let mh : m ∣ h = gh.most m (dvd-mul_right m a) (dvd-mul_right m b) in
+        let gh : IsGcd (m * a) (m * b) h = e.1 in
+        let mh : m ∣ h = gh.2 m (dvd-mul_right m a) (dvd-mul_right m b) in
         let eq : m * (h / m) ≡ h = mul-div_cancel' m mh in
-        let ka : h / m ∣ a = dvd_of_mul-dvd-mul_left (h / m) pm (subst (λ (x : ℕ). x ∣ m * a) (sym eq) gh.first) in
-        let kb : h / m ∣ b = dvd_of_mul-dvd-mul_left (h / m) pm (subst (λ (x : ℕ). x ∣ m * b) (sym eq) gh.second) in
-        let kg : h / m ∣ g = gr.most (h / m) ka kb in
+        let ka : h / m ∣ a = dvd_of_mul-dvd-mul_left (h / m) pm (subst (λ (x : ℕ). x ∣ m * a) (sym eq) gh.0) in
+        let kb : h / m ∣ b = dvd_of_mul-dvd-mul_left (h / m) pm (subst (λ (x : ℕ). x ∣ m * b) (sym eq) gh.1) in
+        let kg : h / m ∣ g = gr.2 (h / m) ka kb in
         let hmg : h ∣ m * g = subst (λ (x : ℕ). x ∣ m * g) eq (mul-dvd-mul_left (h / m) m kg) in
         let aba : a * b ∣ m * a = subst (λ (x : ℕ). x ∣ m * a) (mul_comm b a) (mul-dvd-mul_right b bm a) in
         let abb : a * b ∣ m * b = mul-dvd-mul_right a am b in
-        dvd_trans (a * b) (gh.most (a * b) aba abb) hmg
+        dvd_trans (a * b) (gh.2 (a * b) aba abb) hmg
 
     -- a / g * b is a common multiple from 1 on
     again : a * (b / g) ≡ a / g * b
-    again = ap (λ (x : ℕ). x * (b / g)) (sym (div-mul_cancel g gr.first)) ∙ mul_assoc (a / g) g (b / g) ∙ ap (λ (x : ℕ). a / g * x) (mul-div_cancel' g gr.second)
+    again = ap (λ (x : ℕ). x * (b / g)) (sym (div-mul_cancel g gr.0)) ∙ mul_assoc (a / g) g (b / g) ∙ ap (λ (x : ℕ). a / g * x) (mul-div_cancel' g gr.1)
 
     positive : 0 < a / g * b
     positive = pos_of_dvd_of_pos (subst (λ (x : ℕ). a / g * b ∣ x) times (dvd-mul_right (a / g * b) g)) product_positive
@@ -97,12 +96,9 @@ module _ (a b : ℕ) (pa : 0 < a) (pb : 0 < b) where
   multiple_small = found_least (a * b) product_positive (dvd-mul_right a b) (dvd-mul_left b a)
 
 -- what the code of `lcm` asks
-module _ {a b g : ℕ} (s : Multipliable a b) (gr : Greatest a b g) where
+module _ {a b g : ℕ} (s : Multipliable a b) (gr : IsGcd a b g) where
   pub divides : 0 < g
   divides = divisor_positive a b s.some_first s.some_second g gr
-
-  pub product_fits : Fits w64 (a / g * b)
-  product_fits = record { fits = lt_of_le_of_lt (mul-le-mul_right b (div-le_self a g)) s.fits }
 
   pub formula : a / g * b ≡ least_multiple a b
   formula = formula_is a b s.some_first s.some_second g gr

@@ -2,13 +2,14 @@
 #![tactic(auto)]
 
 ghost use Rattle.std.specs.Prelude.{◌≡◌, map, ℕ, ◌≤◌};
+ghost use Rattle.std.specs.Int.{IsGcd};
 ghost use Rattle.multiples.specs.Multiple.{least_multiple, LeastMultiple};
-ghost use Rattle.multiples.specs.Clauses.{Greatest, Multipliable};
+ghost use Rattle.multiples.specs.Clauses.{Multipliable};
 ghost use Rattle.multiples.specs.Examples.{cases, multiple};
 
 // The greatest common divisor, by recursion: the second number, at each call the remainder of the two before, falls.
 pub fn gcd(a: u64, b: u64) -> u64
-    ensures { Greatest a b result }
+    ensures { IsGcd a b result }
 {
     if b == 0 { a } else { gcd(b, a % b) }
 }
