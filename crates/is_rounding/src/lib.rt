@@ -145,10 +145,8 @@ fn count_sum(counts: &[u16], start: usize, step: usize, number: usize) -> u32
     ensures { result ≡ total counts.now (places start step number) }
 {
     let mut s: u32 = 0;
-    let mut at = start;
     for k in 0..number {
-        s = s + u32::from(counts[at]);
-        at = at + step;
+        s += u32::from(counts[start + k * step]);
     }
     s
 }
