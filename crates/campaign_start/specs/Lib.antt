@@ -1,3 +1,2 @@
 pub mod Start
-pub mod Clauses
 pub mod Examples
