@@ -9,7 +9,6 @@ use borrow.Author.Tests.{lt-ltb, le-ltb}
 use Rattle.table.specs.Table.{total, cell_places, row_places, column_places, all_places}
 use Rattle.grid.specs.Clauses.{grid_places, grid_at, grid_of}
 use Rattle.base.proofs.Lists.{length_tabulate, get_d_tabulate}
-use Rattle.base.proofs.Listing.{ListedTo, listed_all}
 use Rattle.table.proofs.Totals.{total_none}
 
 -- the cells that stand at each kind of place of the grid
@@ -67,8 +66,3 @@ grid_entry r c g k h = get_d_tabulate 169 _ k 0 h
 pub length_grid : (r c : ℕ) (g : List ℕ) → length (grid_of r c g) ≡ 169
 unfolding grid_of
 length_grid r c g = length_tabulate 169 _
-
--- a loop over the places
-pub grid_listed : (r c : ℕ) (g : List ℕ) {e : List ℕ} {k : ℕ} → ListedTo 169 (λ i. grid_at r c g (i / 13) (i % 13)) e k → 169 ≤ k → e ≡ grid_of r c g
-unfolding grid_of
-grid_listed r c g t h = listed_all t h

@@ -6,8 +6,9 @@ ghost use Rattle.table.specs.Table.{entries};
 ghost use Rattle.grid.specs.Clauses.{grid_at, grid_of, grid_order};
 ghost use Rattle.table.specs.Clauses.{Shape, check_of};
 
-use table::sums::sum;
+use std::array::from_fn;
 use table::Table;
+use table::sums::sum;
 
 pub mod write;
 
@@ -16,27 +17,14 @@ pub fn entry(t: Table, cells: &[u32], p: usize, q: usize) -> u64
     requires { Shape t.rows t.columns cells.now }
     ensures { result ≡ grid_at t.rows t.columns cells.now p q }
 {
-    let rows = t.rows;
-    let columns = t.columns;
-    if p < 12 {
-        if rows <= p {
-            return 0;
-        }
-        if q < 12 {
-            if columns <= q {
-                return 0;
-            }
-            return sum(cells, p * columns + q, 1, 1);
-        }
-        return sum(cells, p * columns, 1, columns);
+    let (rows, columns) = (t.rows, t.columns);
+    match (p < 12, q < 12) {
+        (true, true) if p < rows && q < columns => sum(cells, p * columns + q, 1, 1),
+        (true, false) if p < rows => sum(cells, p * columns, 1, columns),
+        (false, true) if q < columns => sum(cells, q, columns, rows),
+        (false, false) => sum(cells, 0, 1, rows * columns),
+        _ => 0,
     }
-    if q < 12 {
-        if columns <= q {
-            return 0;
-        }
-        return sum(cells, q, columns, rows);
-    }
-    sum(cells, 0, 1, rows * columns)
 }
 
 // The entries, each at its place of the grid.
@@ -44,11 +32,7 @@ pub fn entries(t: Table, cells: &[u32]) -> [u64; 169]
     requires { Shape t.rows t.columns cells.now }
     ensures { result ≡ grid_of t.rows t.columns cells.now }
 {
-    let mut e = [0u64; 169];
-    for k in 0..169 {
-        e[k] = entry(t, cells, k / 13, k % 13);
-    }
-    e
+    from_fn(|k| entry(t, cells, k / 13, k % 13))
 }
 
 // What holds of every accepted table: the grid has its entries, in their order, at the places of `grid_order`.

@@ -1,9 +1,7 @@
-use Prim.Native.Nat.{◌≤◌, ◌-◌}
-use Rattle.grid.proofs.CellWrites.{RowTo}
+use Prim.Native.Nat.{◌+◌}
+use lib.ListN.{get_or}
+use Rattle.base.specs.Clauses.{Filled}
 use Rattle.grid.proofs.write.write_row.Given as goal
 
 abbrev pub invariant-loop-j : goal.invariant-loop-j
-invariant-loop-j l = (l.j ≤ l.columns) × RowTo l.n l.first l.at l.initial.counts l.counts l.j
-
-abbrev pub decreases-loop-j : goal.decreases-loop-j
-decreases-loop-j l = l.columns - l.j
+invariant-loop-j l = Filled (λ k. get_or l.n (l.first + k) 0) l.at l.initial.counts l.counts l.j
