@@ -1,11 +1,14 @@
 -- Laws on the bytes of a plan that are put into a buffer one part after another. Assumes nothing.
-use mathlib.Core.Path.{◌≡◌, refl}
+use mathlib.Core.Path.{◌≡◌, refl, ap}
 use mathlib.Core.List.{List}
 use Prim.Native.Nat.{ℕ, ◌+◌, ◌*◌, ◌<◌, ◌≤◌}
 use native.Mathlib.Omega.{arith}
-use lib.ListN.{length, get_or}
+use lib.ListN.{length, get_or, take}
+use Rattle.std.proofs.lemmas.List.{get_or-take}
 use Rattle.base.specs.Buffers.{put_at}
 use Rattle.base.proofs.Puts.{put_then, Put, put_more}
+use Rattle.base.proofs.Joins.{join_ext}
+use Rattle.std.proofs.lemmas.List.{length-take-le}
 use Rattle.byte_numbers.specs.Bytes.{bytes}
 use Rattle.form.specs.Form.{head, contents_entry}
 use Rattle.byte_numbers.proofs.Held.{length_bytes}
@@ -32,3 +35,8 @@ put_head r c k old one two three four new e f g h i l =
 pub numbers_more : (w n : ℕ) (l : List ℕ) (old : List ℕ) (at i : ℕ) (mid new : List ℕ) → Put old at (numbers w i l) mid
     → new ≡ put_at mid (at + w * i) (bytes w (get_or l i 0)) → i < n → at + w * n ≤ length old → Put old at (numbers w (i + 1) l) new
 numbers_more w n l old at i mid new = put_more w n old at _ i mid new (λ j. length_bytes w _)
+
+-- the first n numbers of a list
+pub numbers_taken : (w n : ℕ) (l : List ℕ) → n ≤ length l → numbers w (length (take n l)) (take n l) ≡ numbers w n l
+numbers_taken w n l h =
+    rw (length-take-le n l h) (join_ext n _ _ (λ i m. ap (bytes w) (get_or-take n l i 0 m)))

@@ -13,14 +13,14 @@ use form::Sizes;
 use form::layout::body_at;
 
 // Puts the head at the start.
-fn head(rows: usize, columns: usize, arrays: usize, plan: &mut [u8])
-    requires { Bounded rows columns arrays × (8 ≤ length plan.old) }
-    ensures { plan.new ≡ put_at plan.old 0 (head rows columns arrays) }
+fn head(s: Sizes, plan: &mut [u8])
+    requires { Bounded s.rows s.columns s.arrays × (8 ≤ length plan.old) }
+    ensures { plan.new ≡ put_at plan.old 0 (head s.rows s.columns s.arrays) }
 {
     put2(1, 0, plan);
-    put1(rows as u8, 2, plan);
-    put1(columns as u8, 3, plan);
-    put2(arrays as u16, 4, plan);
+    put1(s.rows as u8, 2, plan);
+    put1(s.columns as u8, 3, plan);
+    put2(s.arrays as u16, 4, plan);
     put2(0, 6, plan);
 }
 
@@ -29,10 +29,7 @@ fn amount(denominator: u32, weights: &[u32], i: usize) -> u32
     requires { i ≤ length weights.now }
     ensures { result ≡ buffered_amount denominator weights.now i }
 {
-    if i == 0 {
-        return denominator;
-    }
-    weights[i - 1]
+    if i == 0 { denominator } else { weights[i - 1] }
 }
 
 // Puts an entry of the contents at a place.
@@ -49,34 +46,34 @@ fn contents(s: Sizes, weights: &[u32], plan: &mut [u8])
     requires { Listed s weights.now plan.old }
     ensures { plan.new ≡ put_at plan.old 8 (join_to (s.arrays + 1) (buffered_entry s weights.now)) }
 {
-    let arrays = s.arrays;
-    for i in 0..arrays + 1 {
+    for i in 0..s.arrays + 1 {
         contents_entry(
             amount(s.denominator, weights, i),
-            body_at(s.rows, s.columns, arrays, i) as u32,
+            body_at(s.rows, s.columns, s.arrays, i) as u32,
             8 + 8 * i,
             plan,
         );
     }
 }
 
-// Puts the cells of the table from a place on.
+// Puts cells of the table from a place on.
 fn cells_at(cells: &[u32], at: usize, plan: &mut [u8])
     requires { at + 4 * length cells.now ≤ length plan.old }
     ensures { plan.new ≡ put_at plan.old at (numbers 4 (length cells.now) cells.now) }
 {
-    for i in 0..cells.len() {
-        put4(cells[i], at + 4 * i, plan);
+    for (i, x) in cells.iter().enumerate() {
+        put4(*x, at + 4 * i, plan);
     }
 }
 
-// Puts the counts of the arrays from a place on.
-fn counts_at(counts: &[u16], count: usize, at: usize, plan: &mut [u8])
-    requires { (count ≤ length counts.now) × (at + 2 * count ≤ length plan.old) }
-    ensures { plan.new ≡ put_at plan.old at (numbers 2 count counts.now) }
+// Puts counts of arrays from a place on.
+// stays: one function for cells and counts needs a trait whose law says the bytes of a number, and its clauses are longer than these two loops.
+fn counts_at(counts: &[u16], at: usize, plan: &mut [u8])
+    requires { at + 2 * length counts.now ≤ length plan.old }
+    ensures { plan.new ≡ put_at plan.old at (numbers 2 (length counts.now) counts.now) }
 {
-    for i in 0..count {
-        put2(counts[i], at + 2 * i, plan);
+    for (i, x) in counts.iter().enumerate() {
+        put2(*x, at + 2 * i, plan);
     }
 }
 
@@ -86,16 +83,12 @@ pub fn write(s: Sizes, cells: &[u32], weights: &[u32], counts: &[u16], plan: &mu
     ensures { plan.new
         ≡ written (encode (buffered_plan s cells.now weights.now counts.now)) plan.old }
 {
-    let rows = s.rows;
-    let columns = s.columns;
-    let arrays = s.arrays;
-    head(rows, columns, arrays, plan);
+    head(s, plan);
     contents(s, weights, plan);
-    cells_at(cells, body_at(rows, columns, arrays, 0), plan);
+    cells_at(cells, body_at(s.rows, s.columns, s.arrays, 0), plan);
     counts_at(
-        counts,
-        arrays * (rows * columns),
-        body_at(rows, columns, arrays, 1),
+        &counts[..s.arrays * (s.rows * s.columns)],
+        body_at(s.rows, s.columns, s.arrays, 1),
         plan,
     );
 }
