@@ -8,16 +8,17 @@ use native.Mathlib.Decide.{ℕ_discrete, dec_lt}
 use native.Mathlib.Omega.{arith}
 use borrow.Author.Tests.{le-leb, lt-leb}
 use lib.Dec.{leb}
-use lib.ListN.{length, get_or, set, length-set}
+use lib.ListN.{length, get_or, set, length-set, replicate}
 use lib.Seq.{get_or-set_same, get_or-set_other}
 use Rattle.base.specs.Lists.{sum_to}
 use Rattle.base.proofs.Sums.{sum_ext, sum_add, sum_mul, sum_swap, sum_term}
 use Rattle.sets.specs.Clauses.{num, ind, on, Without}
-use Rattle.paths.specs.Clauses.{Stuck, OneMore, Augmented}
+use Rattle.paths.specs.Clauses.{Stuck, OneMore}
+use Rattle.paths.specs.Calls.{Augmented}
 use Rattle.paths.specs.declared.FreePlaces.{FreePlaces}
-use Rattle.line_sums.specs.Clauses.{Board, board_of, Places, row_sum, col_sum, Feasible, Room, RowsFilled, Lacking, LacksOne}
+use Rattle.line_sums.specs.Clauses.{Board, board_of, start, Places, row_sum, col_sum, Feasible, Room, RowsFilled, Lacking, LacksOne}
 use Rattle.sets.proofs.Indicators.{ind_same, ind_other}
-use Rattle.line_sums.proofs.Fixes.{places_more, row_more, col_more}
+use Rattle.line_sums.proofs.Fixes.{places_free, row_more, col_more}
 use Rattle.line_sums.proofs.Cuts.{cut}
 
 -- nothing filled
@@ -101,29 +102,25 @@ room_left {i = i} {n = n} {k = k} h r f = record {
   feasible = feasible_filled f r.feasible;
 }
 
--- k more in row i
-pub record InRow (up₀ down₀ up down one lack₀ lack : List ℕ) (i k : ℕ) : Type 0 where
-  pub places : Places up down one
-  pub filled : RowsFilled (board_of up₀ down₀ one) (board_of up down one) lack₀ lack (λ p. k * ind p i)
+-- with k more in row i
+module _ {g₀ : Board} {lack₀ lack : List ℕ} {columns : ℕ} (m m' : FreePlaces) (i k : ℕ) (a : RowsFilled g₀ (start m.up m.down) lack₀ lack (λ p. k * ind p i)) (l : Lacking lack columns) where
+  places : Places m.up m.down (replicate 13 0)
+  places = places_free m.apart
 
-module _ {up₀ down₀ one lack₀ lack : List ℕ} {m : FreePlaces} {i k columns : ℕ} (a : InRow up₀ down₀ m.up m.down one lack₀ lack i k) (l : Lacking lack columns) (m' : FreePlaces) where
   -- a search finds a column where more is to come
-  pub found : {n : ℕ} (o : Option ℕ) → i < 13 → k < n → Room (board_of up₀ down₀ one) lack₀ i n → Augmented m m' columns i o → IsSome o
+  pub found : {n : ℕ} (o : Option ℕ) → i < 13 → k < n → Room g₀ lack₀ i n → Augmented m m' columns i o → IsSome o
   found {n} (Some j) hi h r g = refl
-  found {n} None hi h r g = absurd (not_stuck a.places a.filled.lack_len l hi (let x : 0 < n - k = omega arith in x) (room_left (omega arith) r a.filled) g.1)
+  found {n} None hi h r g = absurd (not_stuck places a.lack_len l hi (let x : 0 < n - k = omega arith in x) (room_left (omega arith) r a) g.1)
 
   -- it lacks something
   pub found_lacks : {o : Option ℕ} {j : ℕ} → Augmented m m' columns i o → o ≡ Some j → LacksOne lack j
-  found_lacks {o} {j} g e = let h = subst (Augmented m m' columns i) e g in record { inside = h.0; len = a.filled.lack_len; some = has_lack a.places a.filled.lack_len l h.0 h.1 }
+  found_lacks {o} {j} g e = let h = subst (Augmented m m' columns i) e g in record { inside = h.0; len = a.lack_len; some = has_lack places a.lack_len l h.0 h.1 }
 
   pub row_step : {o : Option ℕ} {j : ℕ} {lack' : List ℕ} → Augmented m m' columns i o → o ≡ Some j → lack' ≡ set lack j (get_or lack j 0 - 1)
-      → InRow up₀ down₀ m'.up m'.down one lack₀ lack' i (k + 1)
+      → RowsFilled g₀ (start m'.up m'.down) lack₀ lack' (λ p. (k + 1) * ind p i)
   row_step {o} {j} g e t =
       let h = subst (Augmented m m' columns i) e g in
-      rw t (record {
-        places = places_more a.places h.2;
-        filled = filled_then a.filled (filled_one a.places a.filled.lack_len l h.0 h.1 h.2) (λ p hp. omega (arith, add-mul k 1 (ind p i)));
-      })
+      rw t (filled_then a (filled_one places a.lack_len l h.0 h.1 h.2) (λ p hp. omega (arith, add-mul k 1 (ind p i))))
 
 -- what the rows from row k on are to have more, and the others nothing
 unfoldable pub rows_from : List ℕ → ℕ → ℕ → ℕ

@@ -8,6 +8,7 @@ use lib.ListN.{get_or, replicate, get_or-replicate}
 use Rattle.base.specs.Lists.{sum_to}
 use Rattle.base.proofs.Sums.{sum_ext, sum_zero}
 use Rattle.line_sums.specs.Clauses.{at, Caps, Matrix, Solvable, nth_cell, FirstMatrix, Board, board_of, start, Places, row_sum, col_sum, Flow, Feasible, RowsFilled, First, FreeOf, BytesOf}
+use Rattle.paths.specs.Clauses.{NotBoth}
 use Rattle.cell_order.specs.Order.{nth_row, nth_column}
 use Rattle.sets.specs.Clauses.{on, has}
 use Rattle.sets.proofs.Members.{on_zero}
@@ -51,13 +52,8 @@ col_start up q h = sum_ext 13 (λ p. has zeros q p + has zeros p q) (λ p. 0) (�
 
 -- before the filling: every place under the cap is free and 0
 module _ {cap rows cols up lack : List ℕ} (b : Caps cap) (s : Solvable cap rows cols) (u : FreeOf cap up) (l : lack ≡ cols) where
-  pub places_start : Places up zeros zeros
-  places_start = record {
-    up_len = u.len;
-    down_len = refl;
-    one_len = refl;
-    single = λ p q hp hq. omega (arith, u.is p q hp hq, b.bit p q hp hq, no_bit p q hp hq);
-  }
+  pub apart_start : NotBoth up zeros
+  apart_start = record { up_len = u.len; down_len = refl; one = λ p q hp hq. omega (arith, u.is p q hp hq, b.bit p q hp hq, none q p hq) }
 
   under_start : Under cap (start up zeros)
   under_start = record { free = λ p q hp hq. omega (arith, u.is p q hp hq, none q p hq); fixed = λ p q hp hq z. no_bit p q hp hq }

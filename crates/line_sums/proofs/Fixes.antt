@@ -6,18 +6,19 @@ use Prim.Native.Nat.{ℕ, zero, suc, ◌+◌, ◌*◌, ◌≤◌, ◌<◌}
 use native.Mathlib.Decide.{ℕ_discrete, dec_lt}
 use native.Mathlib.Omega.{arith}
 use borrow.Author.Count.{below_more}
-use lib.ListN.{get_or, set, length-set}
+use lib.ListN.{get_or, set, length-set, replicate, get_or-replicate}
 use Rattle.base.specs.Lists.{sum_to}
 use Rattle.cell_order.specs.Order.{nth_row, nth_column, rank}
 use Rattle.cell_order.proofs.Ranks.{rank_row, rank_column}
+use Rattle.sets.proofs.Members.{on_zero}
 use Rattle.sets.specs.Clauses.{ind, on, has, Single, With, Without}
-use Rattle.line_sums.specs.Clauses.{nth_cell, Board, board_of, Places, row_sum, col_sum, Flow, Allowed, Fixed, First, PlaceFixed}
-use Rattle.paths.specs.Clauses.{Stuck, Augmented, same_place, row_ones, col_ones, OneMore}
+use Rattle.line_sums.specs.Clauses.{nth_cell, Board, board_of, Places, row_sum, col_sum, Flow, Allowed, Fixed, First}
+use Rattle.paths.specs.Calls.{Augmented}
+use Rattle.paths.specs.Clauses.{Stuck, NotBoth, same_place, row_ones, col_ones, OneMore}
 use Rattle.base.proofs.Sums.{sum_ext, sum_add}
 use Rattle.sets.proofs.Indicators.{ind_same, ind_eq}
 use Rattle.paths.proofs.Paths.{place_swap, place_other_row, place_other_col, place_in_row, gain_row, gain_col, taken, put}
 use Rattle.paths.specs.declared.FreePlaces.{FreePlaces}
-use Rattle.line_sums.specs.declared.places.AllPlaces.{AllPlaces}
 use Rattle.line_sums.proofs.Cuts.{cut}
 use Rattle.line_sums.proofs.Cells.{row_below, column_below, rank_is, row_inside, column_inside}
 
@@ -61,6 +62,18 @@ which x p y q = go (ℕ_discrete x p) (ℕ_discrete y q)
     go (yes e) (no n) = other (place_other_col x p y q n)
     go (no n) d = other (place_other_row x p y q n)
 
+-- with no place fixed at 1
+pub places_free : {up down : List ℕ} → NotBoth up down → Places up down (replicate 13 0)
+places_free {up} {down} m = record {
+  up_len = m.up_len;
+  down_len = m.down_len;
+  one_len = refl;
+  single = λ p q hp hq. omega (arith, m.one p q hp hq, none p q hp);
+}
+  where
+    none : (p q : ℕ) → p < 13 → has (replicate 13 0) p q ≡ 0
+    none p q h = ap (λ (n : ℕ). on n q) (get_or-replicate {A = ℕ} 13 p 0 0 h) ∙ on_zero q
+
 -- one more in a row and a column
 module _ {up down one up' down' : List ℕ} {row column : ℕ} (m : Places up down one) (v : OneMore up down up' down' row column) where
   pub places_more : Places up' down' one
@@ -77,33 +90,21 @@ module _ {up down one up' down' : List ℕ} {row column : ℕ} (m : Places up do
   pub col_more : (q : ℕ) → col_sum (board_of up' down' one) q ≡ col_sum (board_of up down one) q + ind q column
   col_more q = omega (arith, col_split up down one q, col_split up' down' one q, v.in_col q)
 
--- all places, from their three lists
-abbrev pub made : List ℕ → List ℕ → List ℕ → AllPlaces
-made up down one = record { free = record { up = up; down = down }; one = one }
-
 module _ {up down one : List ℕ} {i j : ℕ} (m : Places up down one) (hi : i < 13) (hj : j < 13) where
   -- a place that is free and 0
   module _ {r : ℕ} (e : has up i j ≡ 1) (w : Without (get_or up i 0) j r) where
     is_up : (x y : ℕ) → has (set up i r) x y + same_place x i y j ≡ has up x y
     is_up = taken up i j r m.up_len hi w
 
-    pub fix_up : PlaceFixed (made up down one) (made (set up i r) down one) i j
+    pub fix_up : Fixed (board_of up down one) (board_of (set up i r) down one) i j
     fix_up = record {
-      places = record {
-        up_len = length-set up i r ∙ m.up_len;
-        down_len = m.down_len;
-        one_len = m.one_len;
-        single = λ p q hp hq. omega (arith, m.single p q hp hq, is_up p q);
-      };
-      fixed = record {
-        rows = λ p. omega (arith, row_split up down one p, row_split (set up i r) down one p);
-        cols = λ q. omega (arith, col_split up down one q, col_split (set up i r) down one q);
-        here = omega (arith, is_up i j, place_same i j, m.single i j hi hj);
-        others = λ p q hp hq n. omega (arith, is_up p q, place_other p i q j n);
-        fewer = λ p q. omega (arith, is_up p q);
-        kept = λ p q hp hq z. refl;
-        least = λ x f. omega (arith, m.single i j hi hj);
-      };
+      rows = λ p. omega (arith, row_split up down one p, row_split (set up i r) down one p);
+      cols = λ q. omega (arith, col_split up down one q, col_split (set up i r) down one q);
+      here = omega (arith, is_up i j, place_same i j, m.single i j hi hj);
+      others = λ p q hp hq n. omega (arith, is_up p q, place_other p i q j n);
+      fewer = λ p q. omega (arith, is_up p q);
+      kept = λ p q hp hq z. refl;
+      least = λ x f. omega (arith, m.single i j hi hj);
     }
 
   -- a place that is free and 1
@@ -126,18 +127,15 @@ module _ {up down one : List ℕ} {i j : ℕ} (m : Places up down one) (hi : i <
     cols_down q = omega (arith, col_split up down one q, col_split up (set down j r) one q, gain_col (set down j r) down i j hi hj (λ x y. sym (is_down x y)) q)
 
     -- it can be 0
-    pub fix_zero : {up' down' : List ℕ} {ends end : ℕ} → Single j ends → on ends end ≡ 1 → OneMore up (set down j r) up' down' i end → PlaceFixed (made up down one) (made up' down' one) i j
+    pub fix_zero : {up' down' : List ℕ} {ends end : ℕ} → Single j ends → on ends end ≡ 1 → OneMore up (set down j r) up' down' i end → Fixed (board_of up down one) (board_of up' down' one) i j
     fix_zero {up'} {down'} {ends} {end} l h v = record {
-      places = places_more places_down v;
-      fixed = record {
-        rows = λ p. omega (arith, row_more places_down v p, rows_down p);
-        cols = λ q. let c = rw to at (col_more places_down v q) in omega (arith, cols_down q);
-        here = none;
-        others = λ p q hp hq n. omega (arith, v.free p q, is_down p q, place_other p i q j n);
-        fewer = λ p q. omega (arith, v.free p q, is_down p q);
-        kept = λ p q hp hq z. omega (arith, v.free p q, is_down p q);
-        least = λ x f. omega (arith, none, m.single i j hi hj);
-      };
+      rows = λ p. omega (arith, row_more places_down v p, rows_down p);
+      cols = λ q. let c = rw to at (col_more places_down v q) in omega (arith, cols_down q);
+      here = none;
+      others = λ p q hp hq n. omega (arith, v.free p q, is_down p q, place_other p i q j n);
+      fewer = λ p q. omega (arith, v.free p q, is_down p q);
+      kept = λ p q hp hq z. omega (arith, v.free p q, is_down p q);
+      least = λ x f. omega (arith, none, m.single i j hi hj);
     }
       where
         to : end ≡ j
@@ -155,16 +153,23 @@ module _ {up down one : List ℕ} {i j : ℕ} (m : Places up down one) (hi : i <
         go p q hp hq z (other n) = omega (arith, is_down p q, f.fixed p q hp hq (omega (arith, is_down p q)))
 
     -- it cannot
-    pub fix_one : {ends r' : ℕ} → Single j ends → Stuck up (set down j r) ends i → With (get_or one i 0) j r'
-        → PlaceFixed (made up down one) (made up (set down j r) (set one i r')) i j
-    fix_one {ends} {r'} l k v = record {
-      places = record {
+    module _ {r' : ℕ} (v : With (get_or one i 0) j r') where
+      is_one : (x y : ℕ) → has (set one i r') x y ≡ has one x y + same_place x i y j
+      is_one = put one i j r' m.one_len hi v
+
+      pub places_one : Places up (set down j r) (set one i r')
+      places_one = record {
         up_len = m.up_len;
         down_len = places_down.down_len;
         one_len = length-set one i r' ∙ m.one_len;
         single = λ p q hp hq. omega (arith, m.single p q hp hq, is_down p q, is_one p q);
-      };
-      fixed = record {
+      }
+
+      bits : (p q : ℕ) → has (set down j r) q p + has (set one i r') p q ≡ has down q p + has one p q
+      bits p q = omega (arith, is_down p q, is_one p q)
+
+      pub fix_one : {ends : ℕ} → Single j ends → Stuck up (set down j r) ends i → Fixed (board_of up down one) (board_of up (set down j r) (set one i r')) i j
+      fix_one {ends} l k = record {
         rows = row_same (board_of up down one) (board_of up (set down j r) (set one i r')) bits;
         cols = col_same (board_of up down one) (board_of up (set down j r) (set one i r')) bits;
         here = omega (arith, is_down i j, place_same i j, m.single i j hi hj);
@@ -172,23 +177,16 @@ module _ {up down one : List ℕ} {i j : ℕ} (m : Places up down one) (hi : i <
         fewer = λ p q. omega (arith, is_down p q);
         kept = λ p q hp hq z. bits p q;
         least = λ x f. least x f (x i j) refl;
-      };
-    }
-      where
-        is_one : (x y : ℕ) → has (set one i r') x y ≡ has one x y + same_place x i y j
-        is_one = put one i j r' m.one_len hi v
-
-        bits : (p q : ℕ) → has (set down j r) q p + has (set one i r') p q ≡ has down q p + has one p q
-        bits p q = omega (arith, is_down p q, is_one p q)
-
-        least : (x : ℕ → ℕ → ℕ) → Allowed (board_of up down one) x → (n : ℕ) → x i j ≡ n → has (set down j r) j i + has (set one i r') i j ≤ x i j
-        least x f zero o =
-            absurd (cut hi places_down k (record { w = 1; pos = omega arith; x = x; flow = flow_down x f o })
-            (λ p h. omega (arith, rows_down p)) (omega (arith, rows_down i, ind_same i)) (λ q h z. omega (arith, cols_down q, l.is q)))
-        least x f (suc n) o = omega (arith, bits i j, m.single i j hi hj)
+      }
+        where
+          least : (x : ℕ → ℕ → ℕ) → Allowed (board_of up down one) x → (n : ℕ) → x i j ≡ n → has (set down j r) j i + has (set one i r') i j ≤ x i j
+          least x f zero o =
+              absurd (cut hi places_down k (record { w = 1; pos = omega arith; x = x; flow = flow_down x f o })
+              (λ p h. omega (arith, rows_down p)) (omega (arith, rows_down i, ind_same i)) (λ q h z. omega (arith, cols_down q, l.is q)))
+          least x f (suc n) o = omega (arith, bits i j, m.single i j hi hj)
 
 -- what a search for another place says, where it finds none and where it finds one
-module _ {m m' : FreePlaces} (ends i : ℕ) where
+module _ (m m' : FreePlaces) (ends i : ℕ) where
   pub stuck_at : (o : Option ℕ) {b : Bool} → Augmented m m' ends i o → is_some o ≡ not b → b ≡ true → (m' ≡ m) × Stuck m.up m.down ends i
   stuck_at (Some j) g e t = let x : true ≡ false = rw t at e in cc
   stuck_at None g e t = g

@@ -5,7 +5,6 @@ use Rattle.base.specs.Lists.{sum_to}
 use Rattle.cell_order.specs.Order.{nth_row, nth_column}
 use Rattle.sets.specs.Clauses.{ind, on, has}
 use Rattle.paths.specs.declared.FreePlaces.{FreePlaces}
-use Rattle.line_sums.specs.declared.places.AllPlaces.{AllPlaces}
 
 -- the number at row p and column q of a 13 by 13 grid held in row order
 abbrev pub at : List ℕ → ℕ → ℕ → ℕ
@@ -113,20 +112,17 @@ pub record LacksOne (lack : List ℕ) (j : ℕ) : Type 0 where
 
 -- what the filling of a row by n more needs, and of all rows by what more says
 pub record RowReady (m : FreePlaces) (lack : List ℕ) (row n : ℕ) : Type 0 where
-  pub places : Places m.up m.down (replicate 13 0)
   pub lack_len : length lack ≡ 13
   pub inside : row < 13
   pub room : Room (start m.up m.down) lack row n
 
 pub record FillReady (m : FreePlaces) (lack more : List ℕ) : Type 0 where
-  pub places : Places m.up m.down (replicate 13 0)
   pub lack_len : length lack ≡ 13
   pub feasible : Feasible (start m.up m.down) (λ p. row_sum (start m.up m.down) p + get_or more p 0) (λ q. col_sum (start m.up m.down) q + get_or lack q 0)
 
 -- and what it leaves
-pub record FilledBy (m : FreePlaces) (lack : List ℕ) (m' : FreePlaces) (lack' : List ℕ) (added : ℕ → ℕ) : Type 0 where
-  pub places : Places m'.up m'.down (replicate 13 0)
-  pub filled : RowsFilled (start m.up m.down) (start m'.up m'.down) lack lack' added
+abbrev pub FilledBy : FreePlaces → List ℕ → FreePlaces → List ℕ → (ℕ → ℕ) → Type 0
+FilledBy m lack m' lack' added = RowsFilled (start m.up m.down) (start m'.up m'.down) lack lack' added
 
 -- x has g's line sums, and g's bits where they are fixed
 abbrev pub Allowed : Board → (ℕ → ℕ → ℕ) → Type 0
@@ -142,25 +138,6 @@ pub record Fixed (g g' : Board) (i j : ℕ) : Type 0 where
   pub kept : (p q : ℕ) → p < 13 → q < 13 → g.free p q ≡ 0 → g'.bit p q ≡ g.bit p q
   pub least : (x : ℕ → ℕ → ℕ) → Allowed g x → g'.bit i j ≤ x i j
 
--- the board of all places
-abbrev pub board : AllPlaces → Board
-board m = board_of m.free.up m.free.down m.one
-
--- what the fixing of a place needs, and of one that is free and 1
-pub record FixReady (m : AllPlaces) (row column : ℕ) : Type 0 where
-  pub places : Places m.free.up m.free.down m.one
-  pub row_inside : row < 13
-  pub column_inside : column < 13
-
-pub record LowerReady (m : AllPlaces) (row column : ℕ) : Type 0 where
-  pub ready : FixReady m row column
-  pub is_one : has m.free.down column row ≡ 1
-
--- and what it leaves
-pub record PlaceFixed (m m' : AllPlaces) (row column : ℕ) : Type 0 where
-  pub places : Places m'.free.up m'.free.down m'.one
-  pub fixed : Fixed (board m) (board m') row column
-
 -- the first k cells of g, in the order in which cells are compared, come first among those of the matrices that have g₀'s sums and fixed places
 pub record First (g₀ g : Board) (k : ℕ) : Type 0 where
   pub rows : (p : ℕ) → row_sum g p ≡ row_sum g₀ p
@@ -171,11 +148,6 @@ pub record First (g₀ g : Board) (k : ℕ) : Type 0 where
   pub kept : (p q : ℕ) → p < 13 → q < 13 → g₀.free p q ≡ 0 → g.bit p q ≡ g₀.bit p q
   pub least : (x : ℕ → ℕ → ℕ) → Allowed g₀ x → (n : ℕ) → n < k
       → ((m : ℕ) → m < n → nth_cell x m ≡ nth_cell g.bit m) → nth_cell g.bit n ≤ nth_cell x n
-
--- what the fixing of the first k cells leaves
-pub record CellsFixed (m m' : AllPlaces) (k : ℕ) : Type 0 where
-  pub places : Places m'.free.up m'.free.down m'.one
-  pub first : First (board m) (board m') k
 
 -- up has for each row the columns where the cap is 1
 pub record FreeOf (cap up : List ℕ) : Type 0 where
@@ -196,4 +168,3 @@ pub record BitReady (down row one column : ℕ) : Type 0 where
 pub record WriteReady (down one : List ℕ) (row : ℕ) (b : List ℕ) : Type 0 where
   pub inside : row < 13
   pub before : BytesOf down one (row * 13) b
-  pub single : (q : ℕ) → q < 13 → has down q row + has one row q ≤ 1

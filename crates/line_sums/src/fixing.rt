@@ -1,5 +1,6 @@
 // The first of the matrices with the same line sums.
-ghost use Rattle.line_sums.specs.Clauses.{Places, LowerReady, FixReady, PlaceFixed, CellsFixed};
+ghost use Rattle.std.specs.Prelude.{◌<◌};
+ghost use Rattle.line_sums.specs.Fixing.{LowerReady, PlaceFixed, CellsFixed};
 
 use crate::places::AllPlaces;
 use cell_order::{nth_column, nth_row};
@@ -19,7 +20,8 @@ impl AllPlaces {
 
     // Fixes a place, as low as can be.
     pub fn fix(&mut self, row: usize, column: usize)
-        requires { FixReady self.old row column }
+        requires row { row < 13 }
+        requires column { column < 13 }
         ensures { PlaceFixed self.old self.new row column }
     {
         if member(self.free.up[row], column) == 1 {
@@ -33,7 +35,6 @@ impl AllPlaces {
 
     // Fixes the 12 by 12 cells, in the order in which cells are compared.
     pub fn fix_all(&mut self)
-        requires { Places self.old.free.up self.old.free.down self.old.one }
         ensures { CellsFixed self.old self.new 144 }
     {
         for n in 0..144 {

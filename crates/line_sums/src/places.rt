@@ -1,7 +1,7 @@
 // Between a grid of bytes, in row order, and sets of places.
-ghost use Rattle.std.specs.Prelude.{◌≡◌, ℕ, ◌+◌, ◌*◌, ◌≤◌, ◌<◌};
-ghost use Rattle.sets.specs.Clauses.{on, has};
-ghost use Rattle.line_sums.specs.Clauses.{Caps, FreeOf, BitReady, WriteReady, BytesOf};
+ghost use Rattle.std.specs.Prelude.{◌≡◌, ◌+◌, ◌*◌, ◌<◌};
+ghost use Rattle.sets.specs.Clauses.{on};
+ghost use Rattle.line_sums.specs.Clauses.{Places, Caps, FreeOf, BitReady, WriteReady, BytesOf};
 
 use paths::FreePlaces;
 use sets::{member, nonzero};
@@ -11,6 +11,7 @@ use sets::{member, nonzero};
 pub struct AllPlaces {
     pub free: FreePlaces,
     pub one: [u32; 13],
+    pub ghost single: { Places free.up free.down one },
 }
 
 // For each row the columns where `cap` is 1.
@@ -47,7 +48,6 @@ impl AllPlaces {
 
     // The matrix, as bytes.
     pub fn bytes(&self) -> [u8; 169]
-        requires { (p q : ℕ) → p < 13 → q < 13 → has self.now.free.down q p + has self.now.one p q ≤ 1 }
         ensures { BytesOf self.now.free.down self.now.one 169 result }
     {
         let mut b = [0; 169];

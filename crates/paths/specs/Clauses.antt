@@ -1,11 +1,8 @@
 -- The levels of a search, and places that move between up and down. up has for each row the columns that it can raise, and down for each column the rows
 -- that it can lower. Assumes nothing.
-use Rattle.std.specs.Prelude.{◌≡◌, ℕ, ◌+◌, ◌<◌, ◌≤◌, min, List, length, get_or, Option, Some, None}
+use Rattle.std.specs.Prelude.{◌≡◌, ℕ, ◌+◌, ◌<◌, ◌≤◌, min, List, length, get_or}
 use Rattle.sets.specs.Clauses.{ind, on, has, Via}
 use Rattle.base.specs.Lists.{sum_to}
-use Rattle.paths.specs.declared.FreePlaces.{FreePlaces}
-use Rattle.paths.specs.declared.Reached.{Reached}
-use Rattle.paths.specs.declared.Found.{Found}
 
 -- the rows of the levels 0 to k and the columns of those before k: a column of a level is reached from a row of that level, and a row of the next from such a column
 pub record Levels (up down rows cols : List ℕ) (start k : ℕ) : Type 0 where
@@ -16,12 +13,6 @@ pub record Levels (up down rows cols : List ℕ) (start k : ℕ) : Type 0 where
   pub row_from : (i p : ℕ) → i < k → has rows (i + 1) p ≡ 1 → Via down (get_or cols i 0) p
   pub row_apart : (i j p : ℕ) → i < j → j ≤ k → has rows i p + has rows j p ≤ 1
   pub col_apart : (i j q : ℕ) → i < j → j < k → has cols i q + has cols j q ≤ 1
-
--- what a search needs: a row, and room for 14 levels
-pub record SearchReady (start : ℕ) (r : Reached) : Type 0 where
-  pub inside : start < 13
-  pub rows_len : length r.rows ≡ 14
-  pub cols_len : length r.cols ≡ 14
 
 -- column end can be raised from a row of the last level, and is on no level before
 pub record Trail (up down rows cols : List ℕ) (start end last : ℕ) : Type 0 where
@@ -39,11 +30,6 @@ pub record Stuck (up down : List ℕ) (ends start : ℕ) : Type 0 where
   pub ups : (p q : ℕ) → p < 13 → q < 13 → has up p q + on cols_left q ≤ 1 + on rows_left p
   pub downs : (p q : ℕ) → p < 13 → q < 13 → has down q p + on rows_left p ≤ 1 + on cols_left q
   pub full : (q : ℕ) → q < 13 → on ends q ≤ on cols_left q
-
--- what a search finds: a column of ends and the levels up to it, or none
-abbrev pub SearchFound : FreePlaces → ℕ → ℕ → Reached → Option Found → Type 0
-SearchFound m ends start r (Some f) = (on ends f.column ≡ 1) × Trail m.up m.down r.rows r.cols start f.column f.level
-SearchFound m ends start r None = Stuck m.up m.down ends start
 
 -- 1 where x is p and y is q, else 0
 unfoldable pub same_place : ℕ → ℕ → ℕ → ℕ → ℕ
@@ -78,11 +64,6 @@ pub record NotBoth (up down : List ℕ) : Type 0 where
   pub down_len : length down ≡ 13
   pub one : (p q : ℕ) → p < 13 → q < 13 → has up p q + has down q p ≤ 1
 
--- what a path from row start needs
-pub record AugmentReady (m : FreePlaces) (start : ℕ) : Type 0 where
-  pub apart : NotBoth m.up m.down
-  pub inside : start < 13
-
 -- one more in a row and in a column, and the same in every other line; what is free stays so
 pub record OneMore (up down up' down' : List ℕ) (row column : ℕ) : Type 0 where
   pub up_len : length up' ≡ 13
@@ -90,8 +71,3 @@ pub record OneMore (up down up' down' : List ℕ) (row column : ℕ) : Type 0 wh
   pub free : (p q : ℕ) → has up' p q + has down' q p ≡ has up p q + has down q p
   pub in_row : (p : ℕ) → row_ones down' p ≡ row_ones down p + ind p row
   pub in_col : (q : ℕ) → col_ones down' q ≡ col_ones down q + ind q column
-
--- one more along a path from row start to a column of ends; or none: nothing has changed and there is no path
-abbrev pub Augmented : FreePlaces → FreePlaces → ℕ → ℕ → Option ℕ → Type 0
-Augmented m m' ends start (Some column) = (column < 13) × (on ends column ≡ 1) × OneMore m.up m.down m'.up m'.down start column
-Augmented m m' ends start None = (m' ≡ m) × Stuck m.up m.down ends start

@@ -1,7 +1,8 @@
 // The search for an alternating path, level by level, and the flip along it.
 #![tactic(auto)]
 
-ghost use Rattle.paths.specs.Clauses.{SearchReady, SearchFound, Trail, FlipReady, NotBoth, Flipped, OneMore, AugmentReady, Augmented};
+ghost use Rattle.std.specs.Prelude.{◌<◌};
+ghost use Rattle.paths.specs.Clauses.{Trail, FlipReady, NotBoth, Flipped, OneMore};
 
 use sets::{meet, minus, pick, single, some, union_of, with, without};
 
@@ -10,6 +11,7 @@ use sets::{meet, minus, pick, single, some, union_of, with, without};
 pub struct FreePlaces {
     pub up: [u32; 13],
     pub down: [u32; 13],
+    pub ghost apart: { NotBoth up down },
 }
 
 // The rows and the columns that a search reaches, level by level.
@@ -36,6 +38,8 @@ pub fn flip(a: &mut [u32; 13], b: &mut [u32; 13], p: usize, q: usize)
 }
 
 impl FreePlaces {
+    ghost use Rattle.paths.specs.Calls.{SearchReady, SearchFound, Augmented};
+
     // Goes from row `start` to columns that can be raised, from these to rows that can be lowered, and so on, until a column of `ends` is reached:
     // that column and its level, or none. Keeps the rows and the columns of each level.
     pub fn reach(&self, ends: u32, start: usize, reached: &mut Reached) -> Option<Found>
@@ -69,8 +73,7 @@ impl FreePlaces {
 
     // Goes back from the column that was found to row `start`, and raises and lowers in turn.
     pub fn flip_path(&mut self, reached: &Reached, start: usize, found: Found)
-        requires not_both { NotBoth self.old.up self.old.down }
-        requires trail { Trail self.old.up self.old.down reached.now.rows reached.now.cols start found.column found.level }
+        requires { Trail self.old.up self.old.down reached.now.rows reached.now.cols start found.column found.level }
         ensures { OneMore self.old.up self.old.down self.new.up self.new.down start found.column }
     {
         let mut q = found.column;
@@ -85,7 +88,7 @@ impl FreePlaces {
 
     // One more in row `start` and in a column of `ends`: that column, or none, and then all stays as it is.
     pub fn augment(&mut self, ends: u32, start: usize) -> Option<usize>
-        requires { AugmentReady self.old start }
+        requires { start < 13 }
         ensures { Augmented self.old self.new ends start result }
     {
         let mut reached = Reached {

@@ -3,24 +3,15 @@ use Rattle.line_sums.proofs.Fills.{filled_none, filled_then, filled_as, rows_non
 use Rattle.line_sums.proofs.fill.fill.Goals as goal
 
 pub loop-row-init : goal.loop-row-init
-loop-row-init c = record { places = c.requires.places; filled = filled_none c.requires.lack_len (rows_none c.args.more.now (omega arith)) }
+loop-row-init c = filled_none c.requires.lack_len (rows_none c.args.more.now (omega arith))
 
 pub fill_row-requires : goal.fill_row-requires
 fill_row-requires c =
     let a = c.loop-row.invariant in
-    record {
-      places = a.places;
-      lack_len = a.filled.lack_len;
-      inside = omega arith;
-      room = room_next c.args.more.now c.loop-row-test.true c.requires.feasible a.filled;
-    }
+    record { lack_len = a.lack_len; inside = omega arith; room = room_next c.args.more.now c.loop-row-test.true c.requires.feasible a }
 
 pub loop-row-preserved : goal.loop-row-preserved
-loop-row-preserved c =
-    let r = c.fill_row.ensures in
-    record { places = r.places; filled = filled_then c.loop-row.invariant.filled r.filled (rows_next c.args.more.now c.loop-row-test.true) }
+loop-row-preserved c = filled_then c.loop-row.invariant c.fill_row.ensures (rows_next c.args.more.now c.loop-row-test.true)
 
 pub returns : goal.returns
-returns c =
-    let a = c.loop-row.invariant in
-    record { places = a.places; filled = filled_as a.filled (rows_all c.args.more.now c.loop-row-test.false) }
+returns c = filled_as c.loop-row.invariant (rows_all c.args.more.now c.loop-row-test.false)

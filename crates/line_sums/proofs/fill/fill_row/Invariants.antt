@@ -1,7 +1,7 @@
-use Prim.Native.Nat.{◌≤◌}
-use lib.ListN.{replicate}
-use Rattle.line_sums.proofs.Fills.{InRow}
+use Prim.Native.Nat.{◌*◌, ◌≤◌}
+use Rattle.sets.specs.Clauses.{ind}
+use Rattle.line_sums.specs.Clauses.{FilledBy}
 use Rattle.line_sums.proofs.fill.fill_row.Given as goal
 
 abbrev pub invariant-loop-k : goal.invariant-loop-k
-invariant-loop-k l = (l.k ≤ l.more) × InRow l.initial.free.up l.initial.free.down l.free.up l.free.down (replicate 13 0) l.initial.lack.left l.lack.left l.row l.k
+invariant-loop-k l = (l.k ≤ l.more) × FilledBy l.initial.free l.initial.lack.left l.free l.lack.left (λ p. l.k * ind p l.row)

@@ -1,12 +1,12 @@
 use borrow.Author.Rules.{rules}
-use native.Mathlib.Omega.{arith}
 use Rattle.line_sums.proofs.Fixes.{first_next, cell_inside}
 use Rattle.line_sums.proofs.places.AllPlaces.fix_all.Goals as goal
 
-pub fix-requires : goal.fix-requires
-fix-requires c =
-    let inside = cell_inside c.loop-n-test.true c.nth_row.ensures c.nth_column.ensures in
-    record { places = c.loop-n.invariant.1.places; row_inside = omega arith; column_inside = omega arith }
+pub fix-requires-clause-row : goal.fix-requires-clause-row
+fix-requires-clause-row c = (cell_inside c.loop-n-test.true c.nth_row.ensures c.nth_column.ensures).0
+
+pub fix-requires-clause-column : goal.fix-requires-clause-column
+fix-requires-clause-column c = (cell_inside c.loop-n-test.true c.nth_row.ensures c.nth_column.ensures).1
 
 pub loop-n-preserved : goal.loop-n-preserved
-loop-n-preserved c = (search rules, record { places = c.fix.ensures.places; first = search (rules, first_next) })
+loop-n-preserved c = (search rules, search (rules, first_next))

@@ -1,5 +1,5 @@
 use Prim.Native.Nat.{◌≤◌}
-use Rattle.line_sums.specs.Clauses.{CellsFixed}
+use Rattle.line_sums.specs.Fixing.{CellsFixed}
 use Rattle.line_sums.proofs.places.AllPlaces.fix_all.Given as goal
 
 abbrev pub invariant-loop-n : goal.invariant-loop-n
