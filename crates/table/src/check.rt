@@ -1,7 +1,7 @@
 // The check of a table's numbers: refusals 1 to 4.
-ghost use Rattle.std.specs.Prelude.{◌≡◌, ◌≤◌, eqb};
+ghost use Rattle.std.specs.Prelude.{◌≡◌, ◌≤◌, eqb, Ok, Err, MatchResult};
 ghost use Rattle.table.specs.Check.{up_to, size_within, denominator_within, cells_within};
-ghost use Rattle.table.specs.Clauses.{sizes_of, check_of};
+ghost use Rattle.table.specs.Clauses.{IsTable, sizes_of, check_of};
 
 use crate::{Refusal, Table};
 
@@ -72,4 +72,27 @@ pub fn check(rows: u32, columns: u32, denominator: u32, cells: &[u32]) -> Result
         return Err(Refusal::LargeCell);
     }
     Ok(t)
+}
+
+// An accepted table: its sizes and its cells.
+#[derive(Clone, Copy)]
+pub struct Accepted<'a> {
+    pub sizes: Table,
+    pub cells: &'a [u32],
+    pub ghost accepted: { IsTable sizes.rows sizes.columns sizes.denominator cells.now },
+}
+
+// The table of these numbers, or the lowest refusal that applies.
+pub fn accept<'a>(
+    rows: u32,
+    columns: u32,
+    denominator: u32,
+    cells: &'a [u32],
+) -> Result<Accepted<'a>, Refusal>
+    ensures { MatchResult result
+        (λ t. (t.cells.now ≡ cells.now) × (check_of rows columns denominator cells.now ≡ Ok t.sizes))
+        (λ x. check_of rows columns denominator cells.now ≡ Err x) }
+{
+    let sizes = check(rows, columns, denominator, cells)?;
+    Ok(Accepted { sizes, cells })
 }
