@@ -3,12 +3,12 @@
 
 ghost use Rattle.std.specs.Prelude.{◌≡◌, map, length};
 ghost use Rattle.table.specs.Table.{places, total, entry_places};
-ghost use Rattle.table.specs.Clauses.{Reach, IsTable};
+ghost use Rattle.table.specs.Clauses.{Reach};
 ghost use Rattle.is_rounding.specs.Rounding.{two_ways, is_rounding};
 ghost use Rattle.is_rounding.specs.Examples.{candidates, rounds_table};
 ghost use Rattle.is_rounding.specs.Clauses.{line_places, cell_lines, row_lines, column_lines, grand_lines, BoundsReady, KindReady, BoundsFrom, Bounds, between, lines_between, entries_between, KindHeld, Counts};
 
-use table::Table;
+use table::check::Accepted;
 use table::sums::sum;
 use table::whole::divide;
 
@@ -159,12 +159,12 @@ fn between(low: u32, high: u32, x: u32) -> bool
 }
 
 // Whether an array is a controlled rounding of an accepted table.
-pub fn is_rounding(t: Table, cells: &[u32], counts: &[u16]) -> bool
-    requires { IsTable t.rows t.columns t.denominator cells.now }
-    ensures { result ≡ is_rounding (two_ways t.rows t.columns) t.denominator cells.now counts.now }
+pub fn is_rounding(t: &Accepted, counts: &[u16]) -> bool
+    ensures { result ≡ is_rounding (two_ways t.now.sizes.rows t.now.sizes.columns) t.now.sizes.denominator t.now.cells.now counts.now }
 {
-    counts.len() == cells.len()
-        && EntryBounds::of(cells, t.rows, t.columns, t.denominator).hold(counts, t.rows, t.columns)
+    let s = t.sizes;
+    counts.len() == t.cells.len()
+        && EntryBounds::of(t.cells, s.rows, s.columns, s.denominator).hold(counts, s.rows, s.columns)
 }
 
 // The literal cases are as stated: arrays that are controlled roundings, and for each entry one that breaks it alone.
