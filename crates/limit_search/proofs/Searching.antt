@@ -1,18 +1,18 @@
 -- What the search of a block keeps, and what the searches of three blocks find. Assumes nothing.
 use Rattle.std.specs.Prelude.{Option, Some, None, unwrap_or}
-use Rattle.std.specs.Option.{option_or}
-use mathlib.Core.Path.{◌≡◌, refl, sym, ap, ap₂, ◌∙◌}
+use Rattle.std.specs.Option.{MatchOption, option_or}
+use Rattle.std.specs.List.{AllWithin, HoldsAt, slice_range}
+use Rattle.std.proofs.lemmas.List.{get_or-drop, get_or-take, length-drop, length-take-le}
+use lib.Dec.{eqb}
+use mathlib.Core.Path.{◌≡◌, refl, sym, ap, ap₂, subst, ◌∙◌}
 use mathlib.Core.Bool.{Bool, true, false, cond}
 use mathlib.Core.List.{List, [], ◌∷◌, ◌++◌}
-use Prim.Native.Nat.{ℕ, ◌+◌, ◌*◌, ◌/◌, ◌%◌, ◌<◌, ◌≤◌}
-use native.Mathlib.Decide.{ℕ_discrete}
-use native.Mathlib.Nat.{mul-one, one-mul, add-mul, zero-mul, mul-le-mul_right, div-eq_of_lt, mod-eq_of_lt}
+use Prim.Native.Nat.{ℕ, ◌+◌, ◌-◌, ◌*◌, ◌/◌, ◌%◌, ◌<◌, ◌≤◌}
+use native.Mathlib.Decide.{dec_lt}
+use native.Mathlib.Nat.{mul-one, one-mul, add-mul, mul-le-mul_right, div-eq_of_lt, mod-eq_of_lt}
 use native.Mathlib.Omega.{arith}
 use lib.Arith.{digits_div, digits_mod, digits_lt}
-use lib.ListN.{get_or}
-use borrow.Author.Tests.{eq-eqb, ne_eqb}
-use mir.Val.{Fits}
-use mir.Syntax.{w64}
+use lib.ListN.{length, get_or, drop}
 use Rattle.base.specs.Lists.{tabulate}
 use Rattle.base.specs.Search.{first_that}
 use Rattle.base.proofs.Lists.{tabulate_ext}
@@ -28,57 +28,64 @@ NoneTo l x b m = (k : ℕ) → k < m → holds l x (block_place b k) ≡ false
 abbrev pub Finds : List ℕ → ℕ → Block → Option ℕ → Type 0
 Finds l x b f = (other : ℕ) → unwrap_or f other ≡ first_that (holds l x) (block_places b) other
 
-module _ (l : List ℕ) (x : ℕ) (b : Block) where
-  pub none_at_start : NoneTo l x b (0 * b.columns)
-  none_at_start k h = absurd (omega (arith, zero-mul b.columns))
+-- the numbers of a row of a block: those from its first place on
+abbrev pub row_of : List ℕ → ℕ → ℕ → List ℕ
+row_of l first columns = slice_range l first (first + columns)
 
-  pub row_start : (i : ℕ) → NoneTo l x b (i * b.columns) → NoneTo l x b (i * b.columns + 0)
-  row_start i f k h = f k (omega arith)
+module _ (l : List ℕ) (x : ℕ) (b : Block) (t : InGrid b) (n : length l ≡ 169) where
+  -- the row i
+  module _ (i : ℕ) (hi : i < b.rows) where
+    abbrev first : ℕ
+    first = (b.top + i) * 13 + b.left
 
-  pub row_end : (i j : ℕ) → b.columns ≤ j → NoneTo l x b (i * b.columns + j) → NoneTo l x b ((i + 1) * b.columns)
-  row_end i j h f k q = f k (omega (arith, add-mul i 1 b.columns, one-mul b.columns))
+    row_length : length (row_of l first b.columns) ≡ b.columns
+    row_length = length-take-le (first + b.columns - first) (drop first l) (omega (arith, length-drop first l, t.rows, t.columns)) ∙ omega arith
 
-  -- the place at row i and column j of the block
-  module _ (i j : ℕ) (h : j < b.columns) where
-    place_is : block_place b (i * b.columns + j) ≡ (b.top + i) * 13 + (b.left + j)
-    place_is = rw (digits_div i h, digits_mod i h) refl
+    row_at : (j : ℕ) → j < b.columns → get_or (row_of l first b.columns) j 0 ≡ get_or l (first + j) 0
+    row_at j h = get_or-take _ (drop first l) j 0 (omega arith) ∙ get_or-drop first l j 0
 
-    pub none_more : (get_or l ((b.top + i) * 13 + (b.left + j)) 0 ≡ x → ⊥) → NoneTo l x b (i * b.columns + j) → NoneTo l x b (i * b.columns + (j + 1))
-    none_more e f k q = go (ℕ_discrete k (i * b.columns + j))
+    place_is : (j : ℕ) → j < b.columns → block_place b (i * b.columns + j) ≡ first + j
+    place_is j h = rw (digits_div i h, digits_mod i h) (omega arith)
+
+    -- none of the first j places of the row
+    none_more : NoneTo l x b (i * b.columns) → (m : ℕ) → m ≤ b.columns → ((j : ℕ) → j < m → eqb (get_or (row_of l first b.columns) j 0) x ≡ false)
+        → NoneTo l x b (i * b.columns + m)
+    none_more f m h r k q = go (dec_lt k (i * b.columns))
       where
-        go : Dec (k ≡ i * b.columns + j) → holds l x (block_place b k) ≡ false
-        go (yes p) = rw p (ap (holds l x) place_is ∙ ne_eqb _ x e)
-        go (no p) = f k (omega arith)
+        go : Dec (k < i * b.columns) → holds l x (block_place b k) ≡ false
+        go (yes p) = f k p
+        go (no p) =
+            let j : ℕ = k - i * b.columns in
+            let is : k ≡ i * b.columns + j = omega arith in
+            let small : j < m = omega arith in
+            rw is (ap (holds l x) (place_is j (omega arith)) ∙ ap (λ (v : ℕ). eqb v x) (sym (row_at j (omega arith))) ∙ r j small)
 
-    pub found_here : i < b.rows → NoneTo l x b (i * b.columns + j) → get_or l ((b.top + i) * 13 + (b.left + j)) 0 ≡ x
-        → Finds l x b (Some ((b.top + i) * 13 + (b.left + j)))
-    found_here hi f e other =
-        sym place_is
-        ∙ sym (first_at (holds l x) (b.rows * b.columns) (block_place b) other (i * b.columns + j) (digits_lt hi h) f (ap (holds l x) place_is ∙ eq-eqb _ x e))
+    -- what the search of the row says
+    abbrev pub Says : Option ℕ → Type 0
+    Says o =
+        MatchOption o (AllWithin (λ y. eqb y x ≡ false) (row_of l first b.columns) 0 (length (row_of l first b.columns)))
+        (λ j. (j < length (row_of l first b.columns))
+        × HoldsAt (λ y. eqb y x ≡ true) (row_of l first b.columns) j
+        × AllWithin (λ y. eqb y x ≡ false) (row_of l first b.columns) 0 j)
 
-  pub found_nowhere : (i : ℕ) {f : Option ℕ} → f ≡ None → b.rows ≤ i → NoneTo l x b (i * b.columns) → Finds l x b f
-  found_nowhere i e h f other =
-      rw e (sym (first_none (holds l x) (b.rows * b.columns) (block_place b) other (λ k q. f k (let p : b.rows * b.columns ≤ i * b.columns = mul-le-mul_right b.columns h in omega arith))))
+    module _ (f : NoneTo l x b (i * b.columns)) {o : Option ℕ} (says : Says o) where
+      pub row_none : o ≡ None → NoneTo l x b ((i + 1) * b.columns)
+      row_none z k q =
+          let s : Says None = subst Says z says in
+          none_more f b.columns (omega arith) (λ j h. s j 0 (omega arith) (omega (arith, row_length))) k (omega (arith, add-mul i 1 b.columns, one-mul b.columns))
 
--- places lie in the grid
-module _ {b : Block} (t : InGrid b) {i j : ℕ} (hi : i < b.rows) (hj : j < b.columns) where
-  pub place_inside : (b.top + i) * 13 + (b.left + j) < 169
-  place_inside = omega (arith, t.rows, t.columns)
+      pub row_found : {j : ℕ} → o ≡ Some j → (other : ℕ) → first + j ≡ first_that (holds l x) (block_places b) other
+      row_found {j} z other =
+          let s : Says (Some j) = subst Says z says in
+          let h : j < b.columns = omega (arith, s.0, row_length) in
+          sym (place_is j h)
+          ∙ sym (first_at (holds l x) (b.rows * b.columns) (block_place b) other (i * b.columns + j) (digits_lt hi h)
+          (none_more f j (omega arith) (λ m q. s.2 m 0 (omega arith) q))
+          (ap (holds l x) (place_is j h) ∙ ap (λ (v : ℕ). eqb v x) (sym (row_at j h)) ∙ s.1 0))
 
-  pub place_scaled : Fits w64 (((b.top + i) * 13 + (b.left + j)) * 8)
-  place_scaled = record { fits = omega (arith, place_inside) }
-
-  pub row_fits : Fits w64 (b.top + i)
-  row_fits = record { fits = omega (arith, t.rows) }
-
-  pub rows_fit : Fits w64 ((b.top + i) * 13)
-  rows_fit = record { fits = omega (arith, t.rows) }
-
-  pub column_fits : Fits w64 (b.left + j)
-  column_fits = record { fits = omega (arith, t.columns) }
-
-  pub place_fits : Fits w64 ((b.top + i) * 13 + (b.left + j))
-  place_fits = record { fits = omega (arith, t.rows, t.columns) }
+  pub found_nowhere : (i : ℕ) → b.rows ≤ i → NoneTo l x b (i * b.columns) → (other : ℕ) → other ≡ first_that (holds l x) (block_places b) other
+  found_nowhere i h f other =
+      sym (first_none (holds l x) (b.rows * b.columns) (block_place b) other (λ k q. f k (let p : b.rows * b.columns ≤ i * b.columns = mul-le-mul_right b.columns h in omega arith)))
 
 -- three lists, and then the last place, which is the answer where nothing else is found
 last : (b : Bool) → ◌≡◌ {A = ℕ} 168 (cond b 168 168)

@@ -18,12 +18,12 @@ fn first_in(
     requires { InGrid (block top left rows columns) }
     ensures { (other : ℕ) → unwrap_or result other ≡ first_that (holds l.now x) (block_places (block top left rows columns)) other }
 {
+    // stays: a place is computed from the number of its row, so a form without that number is no plainer
     for i in 0..rows {
-        for j in 0..columns {
-            let k = (top + i) * 13 + (left + j);
-            if l[k] == x {
-                return Some(k);
-            }
+        let first = (top + i) * 13 + left;
+        let row = &l[first..first + columns];
+        if let Some(j) = row.iter().position(|y| *y == x) {
+            return Some(first + j);
         }
     }
     None
