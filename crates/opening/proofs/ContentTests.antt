@@ -1,6 +1,6 @@
 -- What the tests of a plan's contents say. Assumes nothing.
 use mathlib.Core.Path.{◌≡◌, refl, sym, ap, ◌∙◌}
-use mathlib.Core.Bool.{Bool, true, false, not, ◌&&◌, false≢true}
+use mathlib.Core.Bool.{Bool, true, false, not, ◌&&◌, false≢true, and_assoc}
 use mathlib.Core.List.{List, [], map}
 use Prim.Native.Nat.{ℕ, ◌+◌, ◌*◌, ◌<◌, ◌≤◌}
 use native.Mathlib.Decide.{dec_lt}
@@ -9,10 +9,10 @@ use lib.ListN.{length, get_or, take, replicate, get_or-eq_default}
 use lib.Dec.{leb, eqb}
 use mir.Val.{Fits}
 use mir.Syntax.{w64}
-use borrow.Author.Tests.{le-leb, lt-leb, leb-true, not-true, not-false}
+use borrow.Author.Tests.{le-leb, lt-leb, leb-true, not-true}
 use Rattle.base.specs.Lists.{sum, sum_to, all, every}
 use Rattle.base.specs.Buffers.{written}
-use Rattle.base.proofs.Lists.{all_elim, and_left, and_right}
+use Rattle.base.proofs.Lists.{all_elim}
 use Rattle.base.proofs.Sums.{sum_places}
 use Rattle.base.proofs.SumLoops.{sum_more}
 use Rattle.base.proofs.Every.{Passed, passed_none, passed_more, passed_all, every_not, every_ext, every_place}
@@ -141,21 +141,27 @@ module _ {s : Sizes} {b cells : List ℕ} (z : Sized s b) (t : TableOf s b cells
   table_few = omega (arith, table_shape.cells, sized_few z)
 
   module _ {x : Bool} {sums : List ℕ} (a : ArraysTested b x sums) where
-    pub arrays_unheld : not x ≡ true → false ≡ arrays_right (decode b)
+    pub arrays_unheld : x ≡ false → x ≡ arrays_right (decode b)
     unfolding arrays_right
-    arrays_unheld h = simp (sym a.answer ∙ not-true x h)
+    arrays_unheld h = simp (sym a.answer ∙ h) h
 
-    pub arrays_met : not x ≡ false → {y : Bool} → y ≡ cells_met cells sums → y ≡ arrays_right (decode b)
+    pub arrays_met : x ≡ true → {y : Bool} → y ≡ cells_met cells sums → y ≡ arrays_right (decode b)
     unfolding arrays_right cells_met
     arrays_met h {y} e =
-        let all_held : all (held (decode b)) (decode b).arrays ≡ true = sym a.answer ∙ not-false x h in
+        let all_held : all (held (decode b)) (decode b).arrays ≡ true = sym a.answer ∙ h in
         let size : length cells ≡ cell_count (decode b) = ap length t.is ∙ cells_length b in
         let same : every (cell_count (decode b)) (λ i. eqb (get_or sums i 0) (get_or cells i 0)) ≡ every (cell_count (decode b)) (λ i. eqb (weighted (decode b).arrays i) (get_or (decode b).cells i 0)) = every_ext (cell_count (decode b)) _ _
         (λ i l.
-        let sum : get_or sums i 0 ≡ weighted (decode b).arrays i = (a.sums_are (not-false x h)).is i l ∙ sym (sum_places (λ a. a.weight * get_or a.counts i 0) (decode b).arrays (record { weight = 0; counts = [] })) in
+        let sum : get_or sums i 0 ≡ weighted (decode b).arrays i = (a.sums_are h).is i l ∙ sym (sum_places (λ a. a.weight * get_or a.counts i 0) (decode b).arrays (record { weight = 0; counts = [] })) in
         let cell : get_or cells i 0 ≡ get_or (decode b).cells i 0 = ap (λ (g : List ℕ). get_or g i 0) t.is in
         cc) in
         e ∙ ap (λ (n : ℕ). every n (λ i. eqb (get_or sums i 0) (get_or cells i 0))) size ∙ same ∙ sym (simp all_held)
+
+-- five tests, as three
+and_five : (a b c d e : Bool) → (a && b && c && d && e) ≡ (a && (b && c) && (d && e))
+and_five true true c d e = and_assoc c d e
+and_five true false c d e = refl
+and_five false b c d e = refl
 
 -- the conditions on a plan's contents, as they are tested
 module _ {s : Sizes} {b : List ℕ} (z : Sized s b) where
@@ -175,40 +181,27 @@ module _ {s : Sizes} {b : List ℕ} (z : Sized s b) where
     pub cells_part : count ≡ length (take count scratch)
     cells_part = sym (ap length cells_read ∙ cells_long)
 
-    module _ {x : Bool} (xe : x ≡ cells_within s.denominator (take count scratch)) where
-      within : x ≡ cells_within (decode b).denominator (decode b).cells
-      within = rw (cells_read, ← denominator_is z) at xe
+    -- the three tests
+    pub consistent_is : consistent (decode b) ≡ (cells_within s.denominator (take count scratch) && weights_right (decode b) && arrays_right (decode b))
+    unfolding consistent arrays_right
+    consistent_is = rw (cells_read, ← denominator_is z)
+        (and_five
+        (cells_within (decode b).denominator (decode b).cells)
+        (all (λ a. leb 1 a.weight) (decode b).arrays)
+        (eqb (sum (map (λ a. a.weight) (decode b).arrays)) (decode b).denominator)
+        (all (held (decode b)) (decode b).arrays)
+        (every ((decode b).rows * (decode b).columns) (λ i. eqb (weighted (decode b).arrays i) (get_or (decode b).cells i 0))))
 
-      pub bad_cell : not x ≡ true → false ≡ consistent (decode b)
-      unfolding consistent
-      bad_cell h = simp (sym within ∙ not-true x h)
-
-      module _ (xh : not x ≡ false) where
-        pub table_is : TableOf s b (take count scratch)
-        table_is = record {
-          is = cells_read;
-          cells_are = record {
-            some = sized_some z;
-            denominator = sized_denominator z;
-            within = λ i. small i (dec_lt i (length (take count scratch)));
-          };
-        }
-          where
-            small : (i : ℕ) → Dec (i < length (take count scratch)) → get_or (take count scratch) i 0 ≤ 1000 * s.denominator
-            small i (yes l) = leb-true _ _ (all_elim _ (take count scratch) 0 (sym xe ∙ not-false x xh) i l)
-            small i (no l) = omega (arith, get_or-eq_default (take count scratch) 0 {n = i} (omega arith))
-
-        module _ {y : Bool} (ye : y ≡ weights_right (decode b)) where
-          pub bad_weights : not y ≡ true → false ≡ consistent (decode b)
-          unfolding consistent
-          bad_weights h =
-              let two : (all (λ a. leb 1 a.weight) (decode b).arrays && eqb (sum (map (λ a. a.weight) (decode b).arrays)) (decode b).denominator) ≡ false = sym ye ∙ not-true y h in
-              simp (sym within ∙ not-false x xh, two)
-
-          pub right_by : not y ≡ false → {v : Bool} → v ≡ arrays_right (decode b) → v ≡ consistent (decode b)
-          unfolding consistent arrays_right
-          right_by h {v} ve =
-              let two : (all (λ a. leb 1 a.weight) (decode b).arrays && eqb (sum (map (λ a. a.weight) (decode b).arrays)) (decode b).denominator) ≡ true = sym ye ∙ not-false y h in
-              let some : Bool = all (λ a. leb 1 a.weight) (decode b).arrays in
-              let sums : Bool = eqb (sum (map (λ a. a.weight) (decode b).arrays)) (decode b).denominator in
-              ve ∙ sym (simp (sym within ∙ not-false x xh, and_left some sums two, and_right some sums two))
+    pub table_is : cells_within s.denominator (take count scratch) ≡ true → TableOf s b (take count scratch)
+    table_is h = record {
+      is = cells_read;
+      cells_are = record {
+        some = sized_some z;
+        denominator = sized_denominator z;
+        within = λ i. small i (dec_lt i (length (take count scratch)));
+      };
+    }
+      where
+        small : (i : ℕ) → Dec (i < length (take count scratch)) → get_or (take count scratch) i 0 ≤ 1000 * s.denominator
+        small i (yes l) = leb-true _ _ (all_elim _ (take count scratch) 0 h i l)
+        small i (no l) = omega (arith, get_or-eq_default (take count scratch) 0 {n = i} (omega arith))

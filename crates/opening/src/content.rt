@@ -58,10 +58,7 @@ fn arrays_right(plan: &LaidOut, cells: &[u32]) -> bool
     let s = plan.sizes;
     let bounds = EntryBounds::of(cells, s.rows, s.columns, u64::from(s.denominator));
     let mut sums = [0u64; 144];
-    if !arrays_held(plan, &bounds, &mut sums) {
-        return false;
-    }
-    cells_met(cells, &sums)
+    arrays_held(plan, &bounds, &mut sums) && cells_met(cells, &sums)
 }
 
 // Whether a plan that is laid out meets the other conditions.
@@ -69,14 +66,8 @@ pub fn consistent(plan: &LaidOut) -> bool
     ensures { result ≡ consistent (decode plan.now.bytes.now) }
 {
     let s = plan.sizes;
-    let count = s.rows * s.columns;
-    let mut cells = [0u32; 144];
-    plan.read_table(&mut cells);
-    if !cells_within(s.denominator, &cells[..count]) {
-        return false;
-    }
-    if !weights_right(plan) {
-        return false;
-    }
-    arrays_right(plan, &cells[..count])
+    let mut room = [0u32; 144];
+    plan.read_table(&mut room);
+    let cells = &room[..s.rows * s.columns];
+    cells_within(s.denominator, cells) && weights_right(plan) && arrays_right(plan, cells)
 }

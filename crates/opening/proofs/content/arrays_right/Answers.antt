@@ -1,5 +1,3 @@
-use mathlib.Core.Bool.{not}
-use mathlib.Core.Path.{ap}
 use Rattle.opening.proofs.ContentTests.{table_shape, table_arrays, table_few, arrays_unheld, arrays_met}
 use borrow.Author.Rules.{rules}
 use Rattle.opening.proofs.content.arrays_right.Goals as goal
@@ -10,11 +8,11 @@ of-bounds-requires c = record { shape = table_shape c.args.plan.now.laid_out c.r
 pub arrays_held-requires : goal.arrays_held-requires
 arrays_held-requires c = table_arrays c.args.plan.now.laid_out c.requires (rw c.from.ensures at c.of-bounds.ensures)
 
-pub returns-then-not-arrays_held : goal.returns-then-not-arrays_held
-returns-then-not-arrays_held c = arrays_unheld c.args.plan.now.laid_out c.requires c.arrays_held.ensures (ap not c.if-not-arrays_held.true)
-
 pub cells_met-requires : goal.cells_met-requires
 cells_met-requires c = search (rules, table_few)
 
-pub returns : goal.returns
-returns c = arrays_met c.args.plan.now.laid_out c.requires c.arrays_held.ensures (ap not c.if-not-arrays_held.false) c.cells_met.ensures
+pub returns-then-arrays_held : goal.returns-then-arrays_held
+returns-then-arrays_held c = arrays_met c.args.plan.now.laid_out c.requires c.arrays_held.ensures c.if-arrays_held.true c.cells_met.ensures
+
+pub returns-else-arrays_held : goal.returns-else-arrays_held
+returns-else-arrays_held c = arrays_unheld c.args.plan.now.laid_out c.requires c.arrays_held.ensures c.if-arrays_held.false
