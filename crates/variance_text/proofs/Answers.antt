@@ -1,6 +1,6 @@
 -- What is printed of a plan, by what opening it answers. Assumes nothing.
-use Rattle.std.specs.Prelude.{Some, Result, Ok, Err}
-use mathlib.Core.Path.{◌≡◌, refl, sym, ap, ◌∙◌}
+use Rattle.std.specs.Prelude.{Some, Ok, Err}
+use mathlib.Core.Path.{◌≡◌, refl, ap, ◌∙◌}
 use mathlib.Core.Bool.{true, false}
 use mathlib.Core.List.{List, ◌++◌}
 use Prim.Native.Nat.{ℕ, ◌≤◌}
@@ -21,9 +21,6 @@ use Rattle.variance_text.specs.declared.Printed.{Printed}
 use Rattle.variance_text.specs.VarianceText.{rest_of_line, plan_text, goes_on}
 use Rattle.variance_text.specs.Write.{Prints}
 
-pub plan_answered : (b : List ℕ) (o : Result Sizes Refusal) → o ≡ open_answer b → (s : Sizes) → o ≡ Ok s → open_answer b ≡ Ok s
-plan_answered b o e s h = sym e ∙ h
-
 module _ (k : ℕ) (b : List ℕ) where
   text_open : Opens b → decimal k ++ rest_of_line (numerators (decode b)) ≡ plan_text k b
   unfolding plan_text
@@ -41,17 +38,16 @@ module _ (k : ℕ) (b : List ℕ) where
   unfolding goes_on
   on_refused x h = rw h refl
 
-  module _ (o : Result Sizes Refusal) (e : o ≡ open_answer b) {out after : List ℕ} {r : ℕ} where
-    pub refusal_printed : (x : Refusal) → o ≡ Err x → Wrote out 0 (refused (number_of x)) after r
-        → Prints k b out after (record { written = r; go_on = false })
-    refusal_printed x h w =
-        let d = is_refused b x (sym e ∙ h) in
+  module _ {out after : List ℕ} {r : ℕ} where
+    pub refusal_printed : {x : Refusal} → open_answer b ≡ Err x → Wrote out 0 (refused (number_of x)) after r → Prints k b out after (record { written = r; go_on = false })
+    refusal_printed {x} e w =
+        let d = is_refused b x e in
         record { wrote = rw (text_refused x d) at w; goes_on_is = on_refused x d }
 
-    pub line_printed : (s : Sizes) → o ≡ Ok s → (n : Numerators) → Measured (decode b) n → Wrote out 0 (decimal k ++ rest_of_line (numerators_of n)) after r
+    pub line_printed : {s : Sizes} → open_answer b ≡ Ok s → {n : Numerators} → Measured (decode b) n → Wrote out 0 (decimal k ++ rest_of_line (numerators_of n)) after r
         → Prints k b out after (record { written = r; go_on = true })
-    line_printed s h n m w =
-        let d = (is_open b s (sym e ∙ h)).opens in
+    line_printed {s} e {n} m w =
+        let d = (is_open b s e).opens in
         let q : decimal k ++ rest_of_line (numerators_of n) ≡ plan_text k b = ap (λ l. decimal k ++ rest_of_line l) m.is ∙ text_open d in
         record { wrote = rw q at w; goes_on_is = on_open d }
 

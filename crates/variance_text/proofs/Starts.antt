@@ -1,10 +1,10 @@
 -- How many bytes a plan has, by its first eight. Assumes nothing.
 use mathlib.Core.Path.{◌≡◌, refl, sym, ◌∙◌}
-use mathlib.Core.Bool.{Bool, true, false, not, cond, ◌&&◌}
+use mathlib.Core.Bool.{Bool, true, false, cond, ◌&&◌}
 use mathlib.Core.List.{List}
 use Prim.Native.Nat.{ℕ, ◌<◌, ◌≤◌}
 use native.Mathlib.Omega.{arith}
-use borrow.Author.Tests.{le-leb, lt-leb, not-true, not-false}
+use borrow.Author.Tests.{le-leb, lt-leb}
 use lib.Dec.{leb}
 use lib.ListN.{length}
 use Rattle.base.proofs.Lists.{and_right}
@@ -37,15 +37,12 @@ module _ (b : List ℕ) where
   short_length h = eight (short_eight h)
 
   module _ (t : Bool) (e : t ≡ start_right b) where
-    pub wrong_length : not t ≡ true → PlanLength b 8
-    wrong_length h = eight (wrong_eight (sym e ∙ not-true t h))
+    pub wrong_length : t ≡ false → PlanLength b 8
+    wrong_length h = eight (wrong_eight (sym e ∙ h))
 
-    pub right_start : not t ≡ false → start_right b ≡ true
-    right_start h = sym e ∙ not-false t h
-
-    pub right_length : not t ≡ false → 8 ≤ length b → (r : ℕ) → r ≡ length_of b → PlanLength b r
+    pub right_length : t ≡ true → 8 ≤ length b → (r : ℕ) → r ≡ length_of b → PlanLength b r
     right_length h l r s =
-        let k = right_start h in
+        let k = sym e ∙ h in
         record { is = s ∙ sym (right_said l k); least = omega (arith, s, length_least b k); most = omega (arith, s, length_most b k) }
 
   -- at least eight bytes, whatever they are

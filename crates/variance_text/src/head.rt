@@ -7,10 +7,7 @@ use form::layout::{length_of, start_right};
 pub fn plan_length(head: &[u8]) -> usize
     ensures { PlanLength head.now result }
 {
-    if head.len() < 8 {
-        return 8;
-    }
-    if !start_right(head) {
+    if head.len() < 8 || !start_right(head) {
         return 8;
     }
     length_of(head)

@@ -11,7 +11,7 @@ ghost use Rattle.variance_text.specs.Write.{max_line, Prints};
 
 use crate::Printed;
 use covariances::LIFT;
-use opening::open::open;
+use opening::open::open_plan;
 use printing::line::print_refusal;
 use printing::write::{put_byte, put_decimal, put_number};
 use variances::Numerators;
@@ -23,7 +23,7 @@ fn put_signed(out: &mut [u8], at: usize, lifted: u64) -> usize
     ensures { Wrote out.old at (signed (sub_ℕ lifted lift)) out.new result }
 {
     if lifted < LIFT {
-        let end = put_byte(out, at, 45);
+        let end = put_byte(out, at, b'-');
         return put_decimal(out, end, LIFT - lifted);
     }
     put_decimal(out, at, lifted - LIFT)
@@ -34,7 +34,7 @@ fn put_covariance(out: &mut [u8], at: usize, lifted: u64) -> usize
     requires { Room out.old at (32 ∷ signed (sub_ℕ lifted lift)) }
     ensures { Wrote out.old at (32 ∷ signed (sub_ℕ lifted lift)) out.new result }
 {
-    let end = put_byte(out, at, 32);
+    let end = put_byte(out, at, b' ');
     put_signed(out, end, lifted)
 }
 
@@ -46,7 +46,7 @@ fn put_numerators(out: &mut [u8], at: usize, n: Numerators) -> usize
     let first = put_number(out, at, 1, n.variances);
     let second = put_covariance(out, first, n.smallest);
     let third = put_covariance(out, second, n.largest);
-    put_byte(out, third, 10)
+    put_byte(out, third, b'\n')
 }
 
 // The line of plan number `number`.
@@ -63,22 +63,14 @@ pub fn print_variances(number: u64, plan: &[u8], out: &mut [u8]) -> Printed
     requires { max_line ≤ length out.old }
     ensures { Prints number plan.now out.old out.new result }
 {
-    let opened = open(plan);
-    match opened {
-        Err(x) => {
-            let written = print_refusal(x, out, 0);
-            Printed {
-                written,
-                go_on: false,
-            }
-        }
-        Ok(s) => {
-            let n = measure(plan, s);
-            let written = print_line(number, n, out);
-            Printed {
-                written,
-                go_on: true,
-            }
-        }
+    match open_plan(plan) {
+        Err(x) => Printed {
+            written: print_refusal(x, out, 0),
+            go_on: false,
+        },
+        Ok(opened) => Printed {
+            written: print_line(number, measure(&opened), out),
+            go_on: true,
+        },
     }
 }
