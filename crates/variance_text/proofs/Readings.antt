@@ -68,6 +68,3 @@ module _ (x h : List ℕ) (i : ℕ) (room : max_length ≤ length x) (kept : len
 
       pub has_read : HasRead after (i + j)
       has_read = record { inside = all_inside; no_more = no_more (dec_lt i 8) }
-
-pub read_count : (buffer : List ℕ) (n : ℕ) → HasRead buffer n → n ≡ length (take n buffer)
-read_count buffer n h = sym (length-take-le n buffer h.inside)

@@ -25,16 +25,9 @@ use Rattle.variance_text.specs.Write.{max_line}
 use Rattle.variance_text.proofs.Signs.{signed_most}
 
 -- a space, and what follows it
-module _ (s : List ℕ) {out : List ℕ} {at : ℕ} (h : Room out at (32 ∷ s)) where
-  pub gap_room : at + 1 ≤ length out
-  gap_room = (room_first (32 ∷ []) s h).fits
-
-  module _ {after : List ℕ} {end : ℕ} (w : Wrote out at (32 ∷ []) after end) where
-    pub gap_then : Room after end s
-    gap_then = room_then (32 ∷ []) s h w
-
-    pub gap_wrote : {last : List ℕ} {r : ℕ} → Wrote after end s last r → Wrote out at (32 ∷ s) last r
-    gap_wrote v = wrote_then (32 ∷ []) s h w v
+pub gap_wrote : (s : List ℕ) {out : List ℕ} {at : ℕ} → Room out at (32 ∷ s) → {after : List ℕ} {end : ℕ} → Wrote out at (32 ∷ []) after end
+    → {last : List ℕ} {r : ℕ} → Wrote after end s last r → Wrote out at (32 ∷ s) last r
+gap_wrote s h w v = wrote_then (32 ∷ []) s h w v
 
 -- the three numerators, each with the space before it, and the end of the line
 module _ (n : Numerators) where
