@@ -43,7 +43,7 @@ pub fn fill_row(free: &mut FreePlaces, lack: &mut Lack, row: usize, more: u8)
     requires { RowReady free.old lack.old.left row more }
     ensures { FilledBy free.old lack.old.left free.new lack.new.left (λ p. more * ind p row) }
 {
-    for k in 0..more {
+    for _k in 0..more {
         let column = free.augment(lack.columns, row).unwrap();
         lack.take(column);
     }
