@@ -117,15 +117,6 @@ abbrev pub column_block : ℕ → Block
 column_block c = block 12 0 1 c
 
 module _ {r c : ℕ} (z : Sizes r c) where
-  pub cells_inside : InGrid (cell_block r c)
-  cells_inside = record { rows = omega (arith, z.rows); columns = omega (arith, z.columns) }
-
-  pub rows_inside : InGrid (row_block r)
-  rows_inside = record { rows = omega (arith, z.rows); columns = omega arith }
-
-  pub columns_inside : InGrid (column_block c)
-  columns_inside = record { rows = omega arith; columns = omega (arith, z.columns) }
-
   cell_places_lem : block_places (cell_block r c) ≡ tabulate (r * c) (λ k. grid_place (k / c) (k % c))
   cell_places_lem = tabulate_ext (r * c) _ _ (λ k h. omega arith)
 
