@@ -4,7 +4,6 @@ use Rattle.std.specs.Prelude.{◌≡◌, Bool, true, false, List, ℕ, zero, suc
 use Rattle.base.specs.Lists.{tabulate}
 use Rattle.cell_order.specs.Order.{nth_row, nth_column, rank}
 use Rattle.table.specs.Table.{entry_places}
-use Rattle.table.specs.Clauses.{IsTable}
 use Rattle.is_rounding.specs.Rounding.{two_ways, is_rounding}
 use Rattle.is_rounding.specs.Clauses.{Room, entries_between}
 use Rattle.next_rounding.specs.Next.{written_if}
@@ -56,11 +55,6 @@ pub record IsNumbering (r c : ℕ) (places low high : List ℕ) : Type 0 where
   pub room : Room low high
   pub counts : (p : ℕ) → p < r * c → get_or low p 0 ≤ 1000
 
--- an accepted table of up to four by four
-pub record SmallTable (r c d : ℕ) (g : List ℕ) : Type 0 where
-  pub table : IsTable r c d g
-  pub small : Small r c
-
 -- an array of which each count is that rounded down or one more
 pub record NumberReady (r c : ℕ) (low n : List ℕ) : Type 0 where
   pub len : length n ≡ r * c
@@ -81,9 +75,8 @@ pub record FirstFrom (test : ℕ → Bool) (from end x : ℕ) : Type 0 where
 pub record NoneFrom (test : ℕ → Bool) (from end : ℕ) : Type 0 where
   pub skipped : (y : ℕ) → from ≤ y → y < end → test y ≡ false
 
--- an accepted table of up to four by four, a controlled rounding of it, and a buffer with room
+-- a table of up to four by four, a controlled rounding of it, and a buffer with room
 pub record NextReady (r c d : ℕ) (g n counts : List ℕ) : Type 0 where
-  pub table : IsTable r c d g
   pub small : Small r c
   pub rounding : is_rounding (two_ways r c) d g n ≡ true
   pub room : r * c ≤ length counts

@@ -3,11 +3,11 @@ ghost use Rattle.std.specs.Prelude.{◌≡◌, ◌+◌, ◌*◌, ◌/◌, ◌%�
 ghost use Rattle.base.specs.Buffers.{written};
 ghost use Rattle.table.specs.Table.{entry_places};
 ghost use Rattle.is_rounding.specs.Clauses.{Bounds};
-ghost use Rattle.next_rounding.specs.Clauses.{Small, Places, SmallTable, IsNumbering, CountReady, NumberReady, number_in, numbered, passes, NoneFrom, FirstFrom};
+ghost use Rattle.next_rounding.specs.Clauses.{Small, Places, IsNumbering, CountReady, NumberReady, number_in, numbered, passes, NoneFrom, FirstFrom};
 
 use cell_order::{nth_column, nth_row};
 use is_rounding::EntryBounds;
-use table::Table;
+use table::check::Accepted;
 
 // What the arrays of a table of up to four by four are numbered by: the places of its cells, in the order in which cells are compared, and the bounds of its
 // entries.
@@ -21,17 +21,18 @@ pub struct Numbering {
 }
 
 impl Numbering {
-    pub fn of(t: Table, cells: &[u32]) -> Numbering
-        requires { SmallTable t.rows t.columns t.denominator cells.now }
-        ensures rows { result.rows ≡ t.rows }
-        ensures columns { result.columns ≡ t.columns }
-        ensures bounds { Bounds (entry_places t.rows t.columns) t.denominator cells.now result.bounds.low result.bounds.high }
+    pub fn of(t: &Accepted) -> Numbering
+        requires { Small t.now.sizes.rows t.now.sizes.columns }
+        ensures rows { result.rows ≡ t.now.sizes.rows }
+        ensures columns { result.columns ≡ t.now.sizes.columns }
+        ensures bounds { Bounds (entry_places t.now.sizes.rows t.now.sizes.columns) t.now.sizes.denominator t.now.cells.now result.bounds.low result.bounds.high }
     {
+        let s = t.sizes;
         Numbering {
-            rows: t.rows,
-            columns: t.columns,
-            places: places(t.rows, t.columns),
-            bounds: EntryBounds::of(cells, t.rows, t.columns, t.denominator),
+            rows: s.rows,
+            columns: s.columns,
+            places: places(s.rows, s.columns),
+            bounds: EntryBounds::of(t.cells, s.rows, s.columns, s.denominator),
         }
     }
 

@@ -7,17 +7,17 @@ ghost use Rattle.next_rounding.specs.Next.{Follows, next_rounding};
 ghost use Rattle.next_rounding.specs.Clauses.{NextReady, Found};
 
 use crate::arrays::Numbering;
-use table::Table;
+use table::check::Accepted;
 
 mod arrays;
 
 // Writes the controlled rounding after one of an accepted table, and returns true; false where there is none.
-pub fn write_next(t: Table, cells: &[u32], array: &[u16], counts: &mut [u16]) -> bool
-    requires { NextReady t.rows t.columns t.denominator cells.now array.now counts.old }
-    ensures { Found (next_rounding t.rows t.columns t.denominator cells.now array.now)
+pub fn write_next(t: &Accepted, array: &[u16], counts: &mut [u16]) -> bool
+    requires { NextReady t.now.sizes.rows t.now.sizes.columns t.now.sizes.denominator t.now.cells.now array.now counts.old }
+    ensures { Found (next_rounding t.now.sizes.rows t.now.sizes.columns t.now.sizes.denominator t.now.cells.now array.now)
         counts.old result counts.new }
 {
-    let numbering = Numbering::of(t, cells);
+    let numbering = Numbering::of(t);
     let given = numbering.number(array);
     match numbering.first_from(given + 1) {
         Some(x) => {
