@@ -22,7 +22,7 @@
  *   set bits, the rounds are above LUFODIMI_MOST_ROUNDS, no number is free, a number is taken after the last round, or the tally is not
  *   the rounds times the table plus the arrays of the numbers taken in this round. A draw of 0 on a copy of the record tells whether it
  *   fits: it returns 0, 10 or 13.
- * - A refused start or draw stores the record's old count and rounds back, so the record has to be writable in any case.
+ * - A refused start or draw leaves the record as it was. The record has to be writable in any case.
  *
  * No call keeps a pointer, none uses a heap, none has a state of its own, so calls may run at the same time on different buffers.
  * Planning needs about 60 KB of stack, variances about 55 KB, every other call less than 10 KB.
