@@ -15,7 +15,7 @@ use Rattle.base.proofs.Sums.{sum_lt, sum_ones, sum_term}
 use Rattle.sets.proofs.Indicators.{ind_same, ind_other}
 use Rattle.sets.proofs.Members.{on_le, on_zero, on_all, nonempty}
 
--- front is the last level's rows; rows_left and cols-left are the rows and the columns that are not reached
+-- front is the last level's rows; rows_left and cols_left are the rows and the columns that are not reached
 pub record Progress (up down : List ℕ) (ends start : ℕ) (rows cols : List ℕ) (k front rows_left cols_left : ℕ) : Type 0 where
   pub levels : Levels up down rows cols start k
   pub rows_len : length rows ≡ 14
@@ -107,9 +107,9 @@ progress_full {up} {cols_left = cols_left} t h = stuck t (λ p q hp hq. omega (a
     none q hq = omega (arith, t.count, sum_term 13 (λ j. on cols_left j) q hq)
 
 -- one level more
-module _ {up down rows cols : List ℕ} {ends start k front rows_left cols_left g next h cols-left' g' front' rows-left' : ℕ} (t : Progress up down ends start rows cols k front rows_left cols_left) (hk : k < 13)
-    (a : UnionOf up front g) (b : Meet g cols_left next) (m : Meet ends next h) (hz : h ≡ 0) (cz : next ≡ 0 → ⊥) (d : Minus cols_left next cols-left')
-    (a' : UnionOf down next g') (b' : Meet g' rows_left front') (d' : Minus rows_left front' rows-left') where
+module _ {up down rows cols : List ℕ} {ends start k front rows_left cols_left g next h cols_left' g' front' rows_left' : ℕ} (t : Progress up down ends start rows cols k front rows_left cols_left) (hk : k < 13)
+    (a : UnionOf up front g) (b : Meet g cols_left next) (m : Meet ends next h) (hz : h ≡ 0) (cz : next ≡ 0 → ⊥) (d : Minus cols_left next cols_left')
+    (a' : UnionOf down next g') (b' : Meet g' rows_left front') (d' : Minus rows_left front' rows_left') where
   abbrev rows⁺ : List ℕ
   rows⁺ = set rows (k + 1) front'
 
@@ -176,16 +176,16 @@ module _ {up down rows cols : List ℕ} {ends start k front rows_left cols_left 
   none : (q : ℕ) → min (on ends q) (on next q) ≡ 0
   none q = sym (m.is q) ∙ ap (λ (n : ℕ). on n q) hz ∙ on_zero q
 
-  fewer : sum_to 13 (λ q. on cols-left' q) < sum_to 13 (λ q. on cols_left q)
+  fewer : sum_to 13 (λ q. on cols_left' q) < sum_to 13 (λ q. on cols_left q)
   fewer =
       let o = nonempty next (let x : 0 < next = pos next cz in x) next_small in
-      sum_lt 13 (λ q. on cols-left' q) (λ q. on cols_left q) o.0 o.1.below (omega (arith, d.is o.0, o.1.is)) (λ q l. omega (arith, d.is q))
+      sum_lt 13 (λ q. on cols_left' q) (λ q. on cols_left q) o.0 o.1.below (omega (arith, d.is o.0, o.1.is)) (λ q l. omega (arith, d.is q))
     where
       pos : (n : ℕ) → (n ≡ 0 → ⊥) → 0 < n
       pos zero z = absurd (z refl)
       pos (suc n) z = omega arith
 
-  pub progress_step : Progress up down ends start rows⁺ cols⁺ (k + 1) front' rows-left' cols-left'
+  pub progress_step : Progress up down ends start rows⁺ cols⁺ (k + 1) front' rows_left' cols_left'
   progress_step = record {
     levels = levels⁺;
     rows_len = length-set rows (k + 1) front' ∙ t.rows_len;
@@ -194,8 +194,8 @@ module _ {up down rows cols : List ℕ} {ends start k front rows_left cols_left 
     front_small = front_small';
     rows_small = d'.small;
     cols_small = d.small;
-    row_seen = λ i p. row_case (λ i x. on x p + on rows-left' p ≤ 1) (λ i l. omega (arith, t.row_seen i p l, d'.is p)) (omega (arith, d'.is p, on_le rows_left p)) i;
-    col_seen = λ i q. col_case (λ i x. on x q + on cols-left' q ≤ 1) (λ i l. omega (arith, t.col_seen i q l, d.is q)) (omega (arith, d.is q, on_le cols_left q)) i;
+    row_seen = λ i p. row_case (λ i x. on x p + on rows_left' p ≤ 1) (λ i l. omega (arith, t.row_seen i p l, d'.is p)) (omega (arith, d'.is p, on_le rows_left p)) i;
+    col_seen = λ i q. col_case (λ i x. on x q + on cols_left' q ≤ 1) (λ i l. omega (arith, t.col_seen i q l, d.is q)) (omega (arith, d.is q, on_le cols_left q)) i;
     begin = omega (arith, t.begin, d'.is start);
     ups = λ p q hp hq. omega (arith, t.ups p q hp hq, a.all p q, b.is q, d.is q, d'.is p, on_le front p, on_le cols_left q, on_le g q);
     downs = λ p q hp hq. omega (arith, t.downs p q hp hq, a'.all q p, b'.is p, d.is q, d'.is p, on_le next q, on_le rows_left p, on_le cols_left q, on_le g' p);
