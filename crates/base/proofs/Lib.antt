@@ -14,5 +14,4 @@ pub mod Searches
 pub mod Zips
 pub mod Differences
 pub mod Signs
-pub mod Clearing
 pub mod StdLists

@@ -2,15 +2,12 @@
 use mathlib.Core.Path.{◌≡◌, refl}
 use mathlib.Core.List.{map}
 use Rattle.base.specs.Lists.{tabulate, all}
-use Rattle.bits.specs.Bits.{bit_of, bit_bytes, spare_clear}
-use Rattle.bits.specs.Examples.{two_bytes, numbers, set, lengths, spares}
+use Rattle.bits.specs.Bits.{bit_of, spare_clear}
+use Rattle.bits.specs.Examples.{two_bytes, numbers, set, spares}
 
 pub bits_hold : map (bit_of two_bytes) numbers ≡ set
 unfolding bit_of
 bits_hold = refl
-
-pub lengths_hold : map (λ x. bit_bytes x.denominator) lengths ≡ map (λ x. x.bytes) lengths
-lengths_hold = refl
 
 pub spares_hold : map (λ x. spare_clear x.count x.bits) spares ≡ map (λ x. x.clear) spares
 unfolding bit_of tabulate all

@@ -5,11 +5,11 @@ use mathlib.Core.List.{List, [], ◌∷◌, zip_with}
 use Prim.Native.Nat.{ℕ, ◌+◌, ◌*◌, ◌<◌, ◌≤◌}
 use native.Mathlib.Nat.{mul-le-mul, mul_comm, mul-zero, div-le_of_le-mul}
 use native.Mathlib.Omega.{arith}
-use lib.ListN.{length, get_or, set}
+use lib.ListN.{length, get_or}
 use lib.Dec.{leb}
 use borrow.Author.Tests.{leb-true}
 use mir.Val.{Fits}
-use mir.Syntax.{w32, w64}
+use mir.Syntax.{w32}
 use Rattle.std.specs.List.{list_all, zip}
 use Rattle.base.specs.Lists.{all}
 use Rattle.base.specs.Buffers.{written}
@@ -17,10 +17,9 @@ use Rattle.base.specs.Clauses.{Filled}
 use Rattle.base.proofs.Zips.{zip_length, zip_at}
 use Rattle.base.proofs.Lists.{all_elim}
 use Rattle.base.proofs.Tabulated.{tabulate_get_d}
-use Rattle.base.proofs.Filling.{front_more, front_all}
+use Rattle.base.proofs.Filling.{front_all}
 use Rattle.table.specs.Check.{cells_within}
 use Rattle.multiples.specs.Multiple.{least_multiple}
-use Rattle.multiples.specs.Clauses.{Multipliable}
 use Rattle.multiples.proofs.Multiples.{multiple_small}
 use Rattle.pool.specs.declared.Scale.{Scale}
 use Rattle.pool.specs.Pool.{scaled_cells}
@@ -28,9 +27,6 @@ use Rattle.pool.specs.Clauses.{Denominators, scale_of, Scaled, Writable}
 
 -- the scale of two denominators
 module _ {d e : ℕ} (s : Denominators d e) where
-  pub multipliable : Multipliable d e
-  multipliable = record { some_first = s.some_first; some_second = s.some_second; fits = omega (arith, mul-le-mul s.first s.second) }
-
   small : least_multiple d e ≤ d * e
   small = multiple_small d e s.some_first s.some_second
 
@@ -45,13 +41,6 @@ module _ {d e : ℕ} (s : Denominators d e) where
     alike = alike;
   }
 
--- a pooled cell: its parts and their sum fit
-pub part_fits : {a x : ℕ} → a ≤ 65535 → x < 4294967296 → Fits w64 (a * x)
-part_fits h k = record { fits = omega (arith, mul-le-mul h k) }
-
-pub cell_fits : {a b x y : ℕ} → a ≤ 65535 → b ≤ 65535 → x < 4294967296 → y < 4294967296 → Fits w64 (a * x + b * y)
-cell_fits h k l m = record { fits = omega (arith, mul-le-mul h l, mul-le-mul k m) }
-
 -- the pooled cell at a place
 abbrev pub cell_at : Scale → List ℕ → List ℕ → ℕ → ℕ
 cell_at s g h i = s.first * get_or g i 0 + s.second * get_or h i 0
@@ -65,9 +54,6 @@ module _ {s : Scale} {g h : List ℕ} (ready : Scaled s g h) where
 
   cells_at : (i : ℕ) → get_or (cells_of s g h) i 0 ≡ cell_at s g h i
   cells_at i = zip_at (λ x y. s.first * x + s.second * y) (omega (arith, mul-zero s.first, mul-zero s.second)) g h ready.alike i
-
-  pub second_inside : (i : ℕ) → i < length g → i < length h
-  second_inside i l = omega (arith, ready.alike)
 
 -- a test of the pairs of two lists, as one of what is made of each pair
 zipped : (t : ℕ → Bool) (f : ℕ → ℕ → ℕ) (g h : List ℕ) → list_all (λ (p : ℕ × ℕ). t (f p.0 p.1)) (zip g h) ≡ all t (zip_with f g h)
@@ -87,10 +73,6 @@ module _ {s : Scale} {g h old : List ℕ} (ready : Writable s g h old) where
       let inside : i < length (cells_of s g h) = omega (arith, cells_length ready.scaled) in
       let low : get_or (cells_of s g h) i 0 ≤ 1000 * s.denominator = leb-true _ _ (all_elim _ (cells_of s g h) 0 ready.within i inside) in
       record { fits = omega (arith, cells_at ready.scaled i, ready.denominator_small) }
-
-  pub cell_stored : {new : List ℕ} {i : ℕ} (x y : ℕ) → Filled (cell_at s g h) 0 old new i → i < length g → x ≡ cell_at s g h i → y ≡ x
-      → Filled (cell_at s g h) 0 old (set new i y) (i + 1)
-  cell_stored x y f l e q = front_more f y (q ∙ e) l ready.room
 
   pub cells_written : {new : List ℕ} {i : ℕ} → Filled (cell_at s g h) 0 old new i → i ≤ length g → length g ≤ i → new ≡ written (cells_of s g h) old
   cells_written {new} {i} f a b =

@@ -4,11 +4,10 @@ use mathlib.Core.Path.{◌≡◌, refl, sym, ◌∙◌}
 use mathlib.Core.Bool.{Bool, true, false, not, ◌&&◌}
 use mathlib.Core.List.{List, [], ◌∷◌, ◌++◌}
 use mathlib.Core.Logic.{◌⊎◌, inl, inr}
-use Prim.Native.Nat.{ℕ, ◌+◌, ◌*◌, ◌<◌, ◌≤◌}
+use Prim.Native.Nat.{ℕ, ◌*◌, ◌<◌, ◌≤◌}
 use native.Mathlib.Omega.{arith}
 use lib.ListN.{length, get_or}
 use lib.Dec.{leb, eqb}
-use borrow.Author.Count.{below_more}
 use borrow.Author.Tests.{lt-leb, le-leb, leb-true, eqb-true, not-true, not-false}
 use Rattle.refusals.specs.declared.Refusal.{Refusal}
 use Rattle.refusals.specs.Due.{Test, refuse, due}
@@ -17,7 +16,7 @@ use Rattle.table.specs.Check.{up_to, cells_within, size_within, denominator_with
 use Rattle.refusals.specs.declared.Refusal.TheVariants.{Size, Denominator, CellCount, LargeCell}
 use Rattle.table.specs.declared.Table.{Table}
 use Rattle.table.specs.Clauses.{IsTable, answered, sizes_of, check_of_cells, check_of}
-use Rattle.base.proofs.Lists.{all_intro, all_elim, all_fails, all_at_member, and_left, and_right}
+use Rattle.base.proofs.Lists.{all_elim, all_at_member, and_left, and_right}
 
 pub too_small : (bound n : ℕ) → n < 1 → false ≡ up_to bound n
 too_small bound n h = simp (lt-leb 1 n h)
@@ -36,20 +35,6 @@ up_to_low bound n h = leb-true 1 n (and_left (leb 1 n) (leb n bound) h)
 
 pub up_to_high : (bound n : ℕ) → up_to bound n ≡ true → n ≤ bound
 up_to_high bound n h = leb-true n bound (and_right (leb 1 n) (leb n bound) h)
-
--- the cells before a place are within the bound
-pub record Within (d : ℕ) (g : List ℕ) (i : ℕ) : Type 0 where
-  pub within : (k : ℕ) → k < i → leb (get_or g k 0) (1000 * d) ≡ true
-
-module _ {d : ℕ} {g : List ℕ} {i : ℕ} (w : Within d g i) where
-  pub within_more : get_or g i 0 ≤ 1000 * d → Within d g (i + 1)
-  within_more h = record { within = below_more (λ (k : ℕ). leb (get_or g k 0) (1000 * d) ≡ true) i w.within (le-leb _ _ h) }
-
-  pub within_all : length g ≤ i → true ≡ cells_within d g
-  within_all h = sym (all_intro _ g 0 (λ k p. w.within k (omega arith)))
-
-pub within_not : (d : ℕ) (g : List ℕ) (i : ℕ) → i < length g → 1000 * d < get_or g i 0 → false ≡ cells_within d g
-within_not d g i p h = sym (all_fails _ g 0 i p (lt-leb _ _ h))
 
 -- the ways through the check of the sizes
 module _ (r c d n : ℕ) (b : Bool) (be : b ≡ size_within r c) where

@@ -2,65 +2,19 @@
 use mathlib.Core.Path.{◌≡◌, ap, ap₂, ◌∙◌}
 use mathlib.Core.List.{List}
 use Prim.Native.Nat.{ℕ, ◌+◌, ◌*◌, ◌<◌, ◌≤◌}
-use native.Mathlib.Nat.{mul-le-mul, mul-le-mul_right, add-mul, one-mul}
-use native.Mathlib.Decide.{dec_lt}
+use native.Mathlib.Nat.{mul-le-mul_right, add-mul, one-mul}
 use native.Mathlib.Omega.{arith}
-use lib.ListN.{length, get_or, set, replicate, length-replicate, get_or-replicate}
-use mir.Val.{Fits}
-use mir.Syntax.{w64}
+use lib.ListN.{length, get_or, replicate, length-replicate, get_or-replicate}
 use Rattle.base.specs.Lists.{sum_to}
 use Rattle.base.specs.Clauses.{Filled}
 use Rattle.base.proofs.SumLoops.{sum_more}
-use Rattle.base.proofs.Filling.{filled_none, front_more, filled_to}
 use Rattle.weighted_arrays.specs.Plan.{Weighted, array_at}
 use Rattle.weighted_arrays.specs.Clauses.{max_product, Addable, Increased, SumsTo}
-
-pub product_small : {w x : ℕ} → w < 4294967296 → x < 65536 → w * x ≤ max_product
-product_small {w} {x} h l = let a : w ≤ 4294967295 = omega arith in let b : x ≤ 65535 = omega arith in omega (arith, mul-le-mul a b)
 
 -- the first i sums are increased
 pub record IncreasedTo (factor : ℕ) (counts old new : List ℕ) (i : ℕ) : Type 0 where
   pub filled : Filled (λ j. get_or old j 0 + factor * get_or counts j 0) 0 old new i
   pub small : (j : ℕ) → j < i → factor * get_or counts j 0 ≤ max_product
-
-pub increased_none : (factor : ℕ) (counts old : List ℕ) → IncreasedTo factor counts old old 0
-increased_none factor counts old = record { filled = filled_none _ 0 old; small = λ j h. absurd (omega arith) }
-
-module _ {factor : ℕ} {counts old new : List ℕ} {i : ℕ} (p : IncreasedTo factor counts old new i) (a : Addable counts old) where
-  module _ {f x : ℕ} (h : i < length counts) (fe : f ≡ factor) (fh : f < 4294967296) (xe : x ≡ get_or counts i 0) (xh : x < 65536) where
-    pub product_fits : Fits w64 (f * x)
-    product_fits = record { fits = omega (arith, product_small fh xh) }
-
-    pub sum_index : i < length new
-    sum_index = omega (arith, p.filled.len, a.sums_length, a.room)
-
-    here : get_or new i 0 ≡ get_or old i 0
-    here = p.filled.beyond i (omega arith)
-
-    pub sum_fits : Fits w64 (get_or new i 0 + f * x)
-    sum_fits = record { fits = omega (arith, here, a.small i h, product_small fh xh) }
-
-    is : f * x ≡ factor * get_or counts i 0
-    is = ap₂ ◌*◌ fe xe
-
-    pub increased_more : IncreasedTo factor counts old (set new i (get_or new i 0 + f * x)) (i + 1)
-    increased_more = record {
-      filled = front_more p.filled _ (ap₂ ◌+◌ here is) h (omega (arith, a.sums_length, a.room));
-      small = λ j l. part j (dec_lt j i) l;
-    }
-      where
-        part : (j : ℕ) → Dec (j < i) → j < i + 1 → factor * get_or counts j 0 ≤ max_product
-        part j (yes q) l = p.small j q
-        part j (no q) l = let e : j ≡ i = omega arith in rw e (omega (arith, product_small fh xh, is))
-
-  pub increased_all : i ≤ length counts → length counts ≤ i → Increased factor counts old new
-  increased_all h l =
-      let e : i ≡ length counts = omega arith in
-      let q = rw e at p in
-      record {
-        filled = filled_to p.filled h l;
-        small = λ j m. let z : 0 + j ≡ j = omega arith in omega (arith, rw z at (q.filled.inside j m), q.small j m);
-      }
 
 -- array by array
 pub sums_none : (f : ℕ → ℕ) (l : List Weighted) (n : ℕ) → n ≤ 144 → SumsTo f l n 0 (replicate 144 0)
