@@ -1,7 +1,7 @@
 -- What the call that tells an array answers and writes, by the tests on its way. Assumes nothing.
 use Rattle.std.specs.Prelude.{Result, Ok, Err, ⊤}
-use mathlib.Core.Path.{◌≡◌, sym, ap, ◌∙◌}
-use mathlib.Core.Bool.{not, ◌||◌, false}
+use mathlib.Core.Path.{◌≡◌, ap, ◌∙◌}
+use mathlib.Core.Bool.{not, ◌||◌, true, false}
 use mathlib.Core.List.{List, [], ◌∷◌}
 use Prim.Native.Nat.{ℕ, ◌-◌, ◌*◌, ◌<◌, ◌≤◌}
 use native.Mathlib.Omega.{arith}
@@ -15,7 +15,6 @@ use Rattle.refusals.specs.declared.Refusal.TheVariants.{Array, Buffer}
 use Rattle.refusals.specs.Due.{refuse, due, Answers}
 use Rattle.refusals.proofs.Dues.{due_first, due_second, refused_so, accepted_so}
 use Rattle.table.specs.Check.{up_to}
-use Rattle.table.proofs.Checks.{too_small, inside, too_large}
 use Rattle.form.specs.declared.Sizes.{Sizes}
 use Rattle.weighted_arrays.specs.Plan.{cell_count, array_at}
 use Rattle.form.specs.Form.{decode}
@@ -42,21 +41,18 @@ module _ (b : List ℕ) (k : ℕ) (weights counts : List ℕ) where
     unfolding array_refusal open_refusal
     after_opening = due_second (open_tests b) _ (is_open b s e).opens
 
-    no_array : up_to (length (decode b).arrays) k ≡ false → Tells (Err Array) (buffers weights counts)
+    numbers : up_to (length (decode b).arrays) k ≡ up_to s.arrays k
+    numbers = rw (arrays_are sized)
+
+    pub no_array : up_to s.arrays k ≡ false → Tells (Err Array) (buffers weights counts)
     unfolding due
-    no_array h = refused_so (after_opening ∙ simp h)
+    no_array h = refused_so (after_opening ∙ simp (numbers ∙ h))
 
-    pub array_zero : k < 1 → Tells (Err Array) (buffers weights counts)
-    array_zero h = no_array (sym (too_small (length (decode b).arrays) k h))
-
-    pub array_above : s.arrays < k → Tells (Err Array) (buffers weights counts)
-    array_above h = no_array (sym (too_large (length (decode b).arrays) k (omega (arith, arrays_are sized))))
-
-    module _ (some : 1 ≤ k) (there : k ≤ s.arrays) where
+    module _ (there : up_to s.arrays k ≡ true) where
       after_number : array_refusal b k (length weights) (length counts)
           ≡ due (refuse Buffer (ltb (length weights) 1 || ltb (length counts) (cell_count (decode b))) ∷ [])
       unfolding due
-      after_number = after_opening ∙ simp (inside (length (decode b).arrays) k some (omega (arith, arrays_are sized)))
+      after_number = after_opening ∙ simp (numbers ∙ there)
 
       pub weight_short : length weights < 1 → Tells (Err Buffer) (buffers weights counts)
       unfolding due

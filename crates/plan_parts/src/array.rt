@@ -20,17 +20,13 @@ pub fn array(
     let opened = open_plan(plan)?;
     let s = opened.plan.sizes;
     let k = number as usize;
-    let cells = s.rows * s.columns;
-    if k < 1 {
-        return Err(Refusal::Array);
-    }
-    if s.arrays < k {
+    if !(1..=s.arrays).contains(&k) {
         return Err(Refusal::Array);
     }
     if weights.len() < 1 {
         return Err(Refusal::Buffer);
     }
-    if counts.len() < cells {
+    if counts.len() < s.rows * s.columns {
         return Err(Refusal::Buffer);
     }
     weights[0] = opened.plan.weight(k - 1);
