@@ -6,34 +6,20 @@ ghost use Rattle.form.specs.Form.{max_length};
 ghost use Rattle.variance_text.specs.Read.{HasRead};
 
 use form::MAX_LENGTH;
-use std::io::{Read, Stdin};
+use reading_input::read_full;
+use std::io::Stdin;
 use variance_text::MAX_LINE;
 use variance_text::head::plan_length;
 use variance_text::print::print_variances;
 
-// Reads until the buffer is full, the input ends or a read fails, and returns how many bytes came.
-fn read_full(mut input: Stdin, buffer: &mut [u8]) -> usize
-    ensures { result ≤ length buffer.new }
-{
-    let mut done = 0;
-    while done < buffer.len() {
-        match input.read(&mut buffer[done..]) {
-            Ok(0) => break,
-            Ok(n) => done += n,
-            Err(_) => break,
-        }
-    }
-    done
-}
-
 // Reads the next plan, or what is left of the input where it ends before, and returns how many bytes came.
-fn read_plan(input: Stdin, plan: &mut [u8]) -> usize
+fn read_plan(mut input: Stdin, plan: &mut [u8]) -> usize
     requires { max_length ≤ length plan.old }
     ensures { HasRead plan.new result }
 {
-    let head = read_full(input, &mut plan[..8]);
+    let head = read_full(&mut input, &mut plan[..8]);
     let length = plan_length(&plan[..head]);
-    let rest = read_full(input, &mut plan[8..length]);
+    let rest = read_full(&mut input, &mut plan[8..length]);
     head + rest
 }
 
@@ -50,10 +36,11 @@ fn show_next(rt: &HostRuntime, number: u64) -> bool {
     is_written && printed.go_on
 }
 
-// A proved loop has to end, and nothing says that the input does. So this one counts its turns down from a number that no run uses up.
+// A proved loop has to end, and nothing says that the input does. So this one ends at a number of plans that no run uses up.
 fn main(rt: HostRuntime) {
-    let mut turns = u64::MAX;
-    while turns > 0 && show_next(&rt, u64::MAX - turns + 1) {
-        turns -= 1;
+    for number in 1..=u64::MAX {
+        if !show_next(&rt, number) {
+            break;
+        }
     }
 }
