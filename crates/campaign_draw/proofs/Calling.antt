@@ -1,153 +1,135 @@
 -- What a campaign draw answers and writes, by the tests on its way. Assumes nothing.
-use Rattle.std.specs.Prelude.{None, Result, Ok, Err, ⊤}
+use Rattle.std.specs.Prelude.{None, Some, Result, Ok, Err, ⊤}
 use mathlib.Core.Path.{◌≡◌, refl, sym, ap, ◌∙◌}
 use mathlib.Core.Bool.{Bool, true, false, not}
 use mathlib.Core.List.{List, [], ◌∷◌}
 use Prim.Native.Nat.{ℕ, ◌+◌, ◌*◌, ◌/◌, ◌%◌, ◌^◌, ◌<◌, ◌≤◌}
 use native.Mathlib.Nat.{mul-le-mul}
 use native.Mathlib.Omega.{arith}
-use lib.ListN.{length, get_or, set, replicate, length-set}
+use lib.ListN.{length, get_or, set, take, replicate, length-set}
 use lib.Dec.{leb, ltb, eqb}
-use mir.Val.{Fits}
-use mir.Syntax.{w64}
 use borrow.Author.Tests.{le-leb, lt-leb, leb-false, lt-ltb, le-ltb, ltb-false, eqb-true, eq-eqb, ne_eqb, not-true, not-false}
 use Rattle.base.specs.Lists.{tabulate}
 use Rattle.base.specs.Buffers.{written}
-use Rattle.base.specs.Clauses.{Filled}
-use Rattle.base.proofs.Lists.{tabulate_ext}
-use Rattle.base.proofs.Filling.{front_more}
-use Rattle.base.proofs.Buffers.{written_at, written_length}
+use Rattle.base.proofs.Buffers.{written_front, written_length}
 use Rattle.refusals.specs.declared.Refusal.{Refusal}
 use Rattle.refusals.specs.declared.Refusal.TheVariants.{Buffer, Number, Record, Taken, Rounds}
 use Rattle.refusals.specs.Due.{refuse, due, after, Answers}
 use Rattle.refusals.proofs.Dues.{due_first, due_second, not_here, not_later, refused_so, accepted_so}
 use Rattle.form.specs.declared.Sizes.{Sizes}
 use Rattle.weighted_arrays.specs.Plan.{cell_count}
-use Rattle.form.specs.Form.{sizes_of, decode}
-use Rattle.opening.specs.Open.{Opens}
+use Rattle.form.specs.Form.{decode}
+use Rattle.opening.specs.Open.{Opens, open_answer}
 use Rattle.drawing.specs.Draw.{drawn_array}
 use Rattle.drawing.specs.Clauses.{Drawing}
 use Rattle.reading.specs.Clauses.{Sized}
 use Rattle.reading.proofs.Sizing.{cells_are, denominator_is, sized_denominator}
-use Rattle.opening.proofs.Opening.{opened_sized, sizes_product}
+use Rattle.opening.proofs.Opening.{is_open, opened_sized}
 use Rattle.records.specs.Record.{CampaignRecord, record_of, max_rounds, fits}
 use Rattle.bits.specs.Bits.{bit_of, bit_bytes}
 use Rattle.campaign_start.specs.Start.{start_tests, start_refusal}
 use Rattle.campaign_draw.specs.Draw.{campaign_refusal, taking, closed, ask, made, Draws}
-use Rattle.campaign_start.specs.declared.Step.{Step}
+use Rattle.records.specs.declared.Record.{Record as Counted}
 use Rattle.bits.specs.Clauses.{Unset}
 use Rattle.records.specs.Clauses.{Fitted}
-use Rattle.campaign_start.specs.Clauses.{sizes_or}
 use Rattle.campaign_draw.specs.Clauses.{Addends, Closable, Closes}
 use Rattle.opening.proofs.Sound.{sound}
 use Rattle.records.proofs.Numbers.{array_length, count_room, tally_room}
 use Rattle.records.proofs.Holding.{fit_count, fit_tally}
-use Rattle.campaign_start.proofs.Starting.{says_plan, says_refused, told_plan, told_refused, opened_first, fitted_of, after_start, start_sizes, start_none, start_refused}
+use Rattle.campaign_start.proofs.Starting.{fitted_of, after_start}
 
 -- counts added to the numbers of a buffer
 abbrev pub sum_at : List ℕ → List ℕ → ℕ → ℕ
 sum_at counts tally i = get_or tally i 0 + get_or counts i 0
 
-module _ {counts old now : List ℕ} {i n x : ℕ} (p : Filled (sum_at counts old) 0 old now i) (e : x ≡ get_or counts i 0) (h : i < n) (a : Addends n counts old) where
-  sum_here : get_or now i 0 + x ≡ sum_at counts old i
-  sum_here = omega (arith, p.beyond i (omega arith))
-
-  pub sum_fits : Fits w64 (get_or now i 0 + x)
-  sum_fits = record { fits = omega (arith, sum_here, a.small i h) }
-
-  pub sum_stored : Filled (sum_at counts old) 0 old (set now i (get_or now i 0 + x)) (i + 1)
-  sum_stored = front_more p _ sum_here h a.tally_room
-
 -- the end of a round, and a round that goes on
-module _ {d n rounds : ℕ} {bits : List ℕ} where
-  pub round_going : (n ≡ d → ⊥) → Closes d n rounds bits (record { answer = Ok tt; taken = n; rounds = rounds }) bits
+module _ (d : ℕ) (s : Counted) (bits : List ℕ) where
+  pub round_going : (s.taken ≡ d → ⊥) → Closes d s bits s bits
   unfolding closed
-  round_going h = record { answer = refl; left = λ tally. rw (ne_eqb n d h) }
+  round_going h = λ tally. rw (ne_eqb s.taken d h)
 
-  pub round_closed : n ≡ d → {bits' : List ℕ} → bits' ≡ written (replicate (bit_bytes d) 0) bits
-      → Closes d n rounds bits (record { answer = Ok tt; taken = 0; rounds = rounds + 1 }) bits'
+  pub round_closed : s.taken ≡ d → {bits' : List ℕ} → bits' ≡ written (replicate (bit_bytes d) 0) bits
+      → Closes d s bits (record { taken = 0; rounds = s.rounds + 1 }) bits'
   unfolding closed
-  round_closed h e = record { answer = refl; left = λ tally. rw (eq-eqb n d h, e) }
+  round_closed h e = λ tally. rw (eq-eqb s.taken d h, e)
 
 -- the ways of a campaign draw to its answer, once its plan is opened for its record
-module _ (b bits tally : List ℕ) {o : Result Sizes Refusal} (is : o ≡ sizes_or b (start_refusal b (record_of 0 0 bits tally))) (n rounds d room : ℕ) where
-  abbrev given : CampaignRecord
-  given = record_of n rounds bits tally
+pub draw_refused : (b bits tally : List ℕ) (n rounds d room : ℕ) {x : Refusal} → start_refusal b (record_of 0 0 bits tally) ≡ Some x
+    → campaign_refusal b d (record_of n rounds bits tally) room ≡ Some x
+unfolding start_refusal campaign_refusal
+draw_refused b bits tally n rounds d room {x} e = due_first (start_tests b (record_of n rounds bits tally)) _ x e
 
-  pub draw_refused : {x : Refusal} → o ≡ Err x → Err x ≡ sizes_or b (campaign_refusal b d given room)
-  unfolding start_refusal campaign_refusal
-  draw_refused {x} e = says_refused b (due_first (start_tests b given) _ x (start_refused b bits tally is n rounds e))
-
-  module _ {t : Sizes} (e : o ≡ Ok t) where
-    draw_by : campaign_refusal b d given room
+module _ {b b' : List ℕ} (bits tally : List ℕ) (i : (b' ≡ b) × (start_refusal b (record_of 0 0 bits tally) ≡ None)) {t : Sizes} (o : open_answer b' ≡ Ok t) where
+  module _ (n rounds d room : ℕ) where
+    draw_by : campaign_refusal b d (record_of n rounds bits tally) room
         ≡ due (refuse Buffer (ltb room (t.rows * t.columns)) ∷ refuse Number (leb t.denominator d)
-        ∷ refuse Record (not (fits (decode b) given)) ∷ refuse Rounds (leb max_rounds rounds) ∷ refuse Taken (not (eqb (bit_of bits d) 0)) ∷ [])
+        ∷ refuse Record (not (fits (decode b) (record_of n rounds bits tally))) ∷ refuse Rounds (leb max_rounds rounds) ∷ refuse Taken (not (eqb (bit_of bits d) 0)) ∷ [])
     unfolding start_refusal campaign_refusal decode
-    draw_by = rw (start_sizes b bits tally is e) (due_second (start_tests b given) _ (start_none b bits tally is e n rounds))
+    draw_by = rw (is_open b t (rw i.0 at o)).sizes (due_second (start_tests b (record_of n rounds bits tally)) _ i.1)
 
-    pub short_counts : room < t.rows * t.columns → Err Buffer ≡ sizes_or b (campaign_refusal b d given room)
+    pub short_counts : room < t.rows * t.columns → campaign_refusal b d (record_of n rounds bits tally) room ≡ Some Buffer
     unfolding due
-    short_counts h = says_refused b (draw_by ∙ simp (lt-ltb _ _ h))
+    short_counts h = draw_by ∙ simp (lt-ltb _ _ h)
 
     module _ (h : t.rows * t.columns ≤ room) where
-      pub number_above : t.denominator ≤ d → Err Number ≡ sizes_or b (campaign_refusal b d given room)
+      pub number_above : t.denominator ≤ d → campaign_refusal b d (record_of n rounds bits tally) room ≡ Some Number
       unfolding due
-      number_above l = says_refused b (draw_by ∙ simp (le-ltb _ _ h, le-leb _ _ l))
+      number_above l = draw_by ∙ simp (le-ltb _ _ h, le-leb _ _ l)
 
-      module _ (l : d < t.denominator) (x : Bool) (xe : x ≡ fits (decode b) given) where
-        pub not_fitting : not x ≡ true → Err Record ≡ sizes_or b (campaign_refusal b d given room)
+      module _ (l : d < t.denominator) (x : Bool) (xe : x ≡ fits (decode b') (record_of n rounds bits tally)) where
+        fitting : x ≡ fits (decode b) (record_of n rounds bits tally)
+        fitting = rw i.0 at xe
+
+        pub not_fitting : not x ≡ true → campaign_refusal b d (record_of n rounds bits tally) room ≡ Some Record
         unfolding due
-        not_fitting q = says_refused b (draw_by ∙ simp (le-ltb _ _ h, lt-leb _ _ l, sym xe ∙ not-true x q))
+        not_fitting q = draw_by ∙ simp (le-ltb _ _ h, lt-leb _ _ l, sym fitting ∙ not-true x q)
 
         module _ (q : not x ≡ false) where
-          pub all_done : max_rounds ≤ rounds → Err Rounds ≡ sizes_or b (campaign_refusal b d given room)
+          pub all_done : max_rounds ≤ rounds → campaign_refusal b d (record_of n rounds bits tally) room ≡ Some Rounds
           unfolding due
-          all_done m = says_refused b (draw_by ∙ simp (le-ltb _ _ h, lt-leb _ _ l, sym xe ∙ not-false x q, le-leb _ _ m))
+          all_done m = draw_by ∙ simp (le-ltb _ _ h, lt-leb _ _ l, sym fitting ∙ not-false x q, le-leb _ _ m)
 
           module _ (m : rounds < max_rounds) (y : ℕ) (ye : y ≡ bit_of bits d) where
-            pub is_taken : (y ≡ 0 → ⊥) → Err Taken ≡ sizes_or b (campaign_refusal b d given room)
+            pub is_taken : (y ≡ 0 → ⊥) → campaign_refusal b d (record_of n rounds bits tally) room ≡ Some Taken
             unfolding due
-            is_taken z =
-                says_refused b (draw_by ∙ simp (le-ltb _ _ h, lt-leb _ _ l, sym xe ∙ not-false x q, lt-leb _ _ m, ne_eqb _ 0 (λ r. z (ye ∙ r))))
+            is_taken z = draw_by ∙ simp (le-ltb _ _ h, lt-leb _ _ l, sym fitting ∙ not-false x q, lt-leb _ _ m, ne_eqb _ 0 (λ r. z (ye ∙ r)))
 
-            pub is_accepted : y ≡ 0 → Ok t ≡ sizes_or b (campaign_refusal b d given room)
+            pub is_accepted : y ≡ 0 → campaign_refusal b d (record_of n rounds bits tally) room ≡ None
             unfolding due
-            is_accepted z =
-                says_plan b
-                (draw_by ∙ simp (le-ltb _ _ h, lt-leb _ _ l, sym xe ∙ not-false x q, lt-leb _ _ m, eq-eqb _ 0 (sym ye ∙ z)))
-                (start_sizes b bits tally is e)
+            is_accepted z = draw_by ∙ simp (le-ltb _ _ h, lt-leb _ _ l, sym fitting ∙ not-false x q, lt-leb _ _ m, eq-eqb _ 0 (sym ye ∙ z))
 
 -- a campaign draw, by what is due of it
-module _ (b : List ℕ) (s : CampaignRecord) (d room : ℕ) {o : Result Sizes Refusal} (is : o ≡ sizes_or b (campaign_refusal b d s room)) where
-  draw_as : (counts : List ℕ) {counts' : List ℕ} {r : Result ⊤ Refusal} {s' : CampaignRecord} → length counts ≡ room
+module _ (b : List ℕ) (s : CampaignRecord) (d : ℕ) (counts : List ℕ) where
+  abbrev room : ℕ
+  room = length counts
+
+  draw_as : {counts' : List ℕ} {r : Result ⊤ Refusal} {s' : CampaignRecord}
       → Answers (campaign_refusal b d s room) (closed (decode b).denominator (taking (decode b) d s)) s r s'
       → counts' ≡ after (campaign_refusal b d s room) (written (drawn_array b d) counts) counts → Draws (λ a. a) (made b s (ask d counts)) r s' counts'
   unfolding made
-  draw_as counts m a e = rw m (record { answer = a.answer; left = a.left; result = e })
+  draw_as a e = record { answer = a.answer; left = a.left; result = e }
 
-  pub draw_keeps : (counts : List ℕ) → length counts ≡ room → {x : Refusal} → o ≡ Err x
-      → Draws (λ a. a) (made b s (ask d counts)) (Err x) s counts
+  pub draw_keeps : {x : Refusal} → campaign_refusal b d s room ≡ Some x → Draws (λ a. a) (made b s (ask d counts)) (Err x) s counts
   unfolding after
-  draw_keeps counts m e = let k = told_refused b _ (sym is ∙ e) in draw_as counts m (refused_so k) (rw k)
+  draw_keeps k = draw_as (refused_so k) (rw k)
 
   -- what an accepted draw has passed
-  module _ {t : Sizes} (e : o ≡ Ok t) where
+  module _ {b' : List ℕ} (i : (b' ≡ b) × (campaign_refusal b d s room ≡ None)) {t : Sizes} (o : open_answer b' ≡ Ok t) where
     none_due : campaign_refusal b d s room ≡ None
-    none_due = (told_plan b _ (sym is ∙ e)).0
+    none_due = i.1
 
-    sizes : t ≡ sizes_of b
-    sizes = (told_plan b _ (sym is ∙ e)).1
+    opened : open_answer b ≡ Ok t
+    opened = rw i.0 at o
 
     opens : Opens b
-    unfolding campaign_refusal
-    opens = opened_first b s _ none_due
+    opens = (is_open b t opened).opens
 
-    fitted : Fitted t b s.bits s.tally
+    fitted : Fitted t s.bits s.tally
     unfolding campaign_refusal
-    fitted = fitted_of b s _ none_due sizes
+    fitted = fitted_of b s _ none_due opened
 
     sized : Sized t b
-    sized = opened_sized b t fitted.is_open
+    sized = opened_sized b t opened
 
     cells : t.rows * t.columns ≡ cell_count (decode b)
     cells = sym (cells_are sized)
@@ -179,11 +161,8 @@ module _ (b : List ℕ) (s : CampaignRecord) (d room : ℕ) {o : Result Sizes Re
     cell_small i l = omega (arith, (sound b opens).meets.within i (omega (arith, (sound b opens).cells)), few)
 
     -- what its callees ask
-    pub draw_product : Fits w64 (t.rows * t.columns)
-    draw_product = sizes_product b t fitted.is_open
-
-    pub array_asked : {n : ℕ} {counts : List ℕ} → n ≤ d → length counts ≡ room → Drawing t b n counts
-    array_asked h m = record { is_open = fitted.is_open; below = omega (arith, denominator_is sized, below); room = omega (arith, long) }
+    pub array_asked : {n : ℕ} → n ≤ d → Drawing t n counts
+    array_asked h = record { below = omega (arith, denominator_is sized, below); room = long }
 
     pub bit_asked : Unset d s.bits
     bit_asked = record { there = omega (arith, fitted.bits_room, denominator_is sized, below); unset = new }
@@ -198,40 +177,45 @@ module _ (b : List ℕ) (s : CampaignRecord) (d room : ℕ) {o : Result Sizes Re
     pub count_small : s.taken + 1 ≤ 65535
     count_small = omega (arith, fit_count (decode b) s fit, count_room s.bits below new, few)
 
-    module _ (counts : List ℕ) {counts' : List ℕ} (m : length counts ≡ room) (w : counts' ≡ written (drawn_array b d) counts) where
+    module _ {counts' : List ℕ} (w : counts' ≡ written (drawn_array b' d) counts) where
       array_long : length (drawn_array b d) ≡ t.rows * t.columns
       array_long = array_length (sound b opens) below ∙ sym cells
 
-      count_at_is : (i : ℕ) → i < t.rows * t.columns → get_or counts' i 0 ≡ get_or (drawn_array b d) i 0
-      count_at_is i l = rw w (written_at (drawn_array b d) counts array_long i l)
+      here : counts' ≡ written (drawn_array b d) counts
+      here = rw i.0 at w
 
-      pub addable : Addends (t.rows * t.columns) counts' s.tally
-      addable = record {
-        counts_room = omega (arith, ap length w ∙ written_length (drawn_array b d) counts array_long (omega (arith, long)), long);
-        tally_room = fitted.tally_room;
-        small = λ i l.
-            let l' : i < cell_count (decode b) = omega (arith, cells) in
-            let before : s.rounds * get_or (decode b).cells i 0 ≤ max_rounds * 65535000 = mul-le-mul (let a : s.rounds ≤ max_rounds = omega (arith, going_on) in a) (cell_small i l') in
-            omega (arith, count_at_is i l, fit_tally (decode b) s fit i l', tally_room (sound b opens) s.bits below new i, cell_small i l', before);
-      }
+      part_is : take (t.rows * t.columns) counts' ≡ drawn_array b d
+      part_is = ap (take (t.rows * t.columns)) here ∙ written_front (drawn_array b d) counts array_long
 
-      tally_is : {tally' : List ℕ} → tally' ≡ written (tabulate (t.rows * t.columns) (sum_at counts' s.tally)) s.tally
-          → tally' ≡ (taking (decode b) d s).tally
-      unfolding taking
-      tally_is q =
-          q ∙ ap (λ (l : List ℕ). written l s.tally) (tabulate_ext _ _ _ (λ i l. ap (λ (x : ℕ). get_or s.tally i 0 + x) (count_at_is i l))
-          ∙ ap (λ (n : ℕ). tabulate n (sum_at (drawn_array b d) s.tally)) cells)
+      pub part_within : t.rows * t.columns ≤ length counts'
+      part_within = omega (arith, ap length here ∙ written_length (drawn_array b d) counts array_long long, long)
 
-      taken_as : {bits' tally' : List ℕ} → tally' ≡ written (tabulate (t.rows * t.columns) (sum_at counts' s.tally)) s.tally
-          → bits' ≡ set s.bits (d / 8) (get_or s.bits (d / 8) 0 + 2 ^ (d % 8)) → record_of (s.taken + 1) s.rounds bits' tally' ≡ taking (decode b) d s
-      unfolding taking
-      taken_as p q = rw (q, tally_is p)
+      pub part_long : t.rows * t.columns ≡ length (take (t.rows * t.columns) counts')
+      part_long = sym (ap length part_is ∙ array_long)
+
+      pub addable : Addends (take (t.rows * t.columns) counts') s.tally
+      addable =
+          let a : Addends (drawn_array b d) s.tally = record {
+            tally_room = omega (arith, array_long, fitted.tally_room);
+            small = λ i l.
+                let l' : i < cell_count (decode b) = omega (arith, cells, array_long) in
+                let before : s.rounds * get_or (decode b).cells i 0 ≤ max_rounds * 65535000 = mul-le-mul (let a : s.rounds ≤ max_rounds = omega (arith, going_on) in a) (cell_small i l') in
+                omega (arith, fit_tally (decode b) s fit i l', tally_room (sound b opens) s.bits below new i, cell_small i l', before);
+          } in
+          rw part_is a
 
       -- what it leaves
-      pub draw_leaves : {bits' bits'' tally' : List ℕ} → tally' ≡ written (tabulate (t.rows * t.columns) (sum_at counts' s.tally)) s.tally
-          → bits' ≡ set s.bits (d / 8) (get_or s.bits (d / 8) 0 + 2 ^ (d % 8)) → {r : Step} → Closes t.denominator (s.taken + 1) s.rounds bits' r bits''
-          → Draws (λ a. a) (made b s (ask d counts)) r.answer (record_of r.taken r.rounds bits'' tally') counts'
+      taken_as : {bits' tally' : List ℕ} → tally' ≡ written (tabulate (length (take (t.rows * t.columns) counts')) (sum_at (take (t.rows * t.columns) counts') s.tally)) s.tally
+          → bits' ≡ set s.bits (d / 8) (get_or s.bits (d / 8) 0 + 2 ^ (d % 8)) → record_of (s.taken + 1) s.rounds bits' tally' ≡ taking (decode b) d s
+      unfolding taking
+      taken_as p q = rw (p, q, part_is, array_long, cells) refl
+
+      pub draw_leaves : {bits' bits'' tally' : List ℕ} {r : Counted}
+          → tally' ≡ written (tabulate (length (take (t.rows * t.columns) counts')) (sum_at (take (t.rows * t.columns) counts') s.tally)) s.tally
+          → bits' ≡ set s.bits (d / 8) (get_or s.bits (d / 8) 0 + 2 ^ (d % 8))
+          → Closes t.denominator (record { taken = s.taken + 1; rounds = s.rounds }) bits' r bits''
+          → Draws (λ a. a) (made b s (ask d counts)) (Ok tt) (record_of r.taken r.rounds bits'' tally') counts'
       unfolding after
       draw_leaves {bits'} {bits''} {tally'} p q c =
           let is : record_of (s.taken + 1) s.rounds bits' tally' ≡ taking (decode b) d s = taken_as p q in
-          rw (c.answer, c.left tally') (draw_as counts m (accepted_so none_due (rw (is, denominator_is sized))) (rw none_due w))
+          rw (c tally') (draw_as (accepted_so none_due (rw (is, denominator_is sized))) (rw none_due here))

@@ -10,11 +10,10 @@ use Rattle.campaign_draw.specs.Draw.{closed}
 abbrev pub max_tally : ℕ
 max_tally = (max_rounds + 1) * (max_expected * max_denominator)
 
--- the first n counts can be added to the first n numbers of a tally
-pub record Addends (n : ℕ) (counts tally : List ℕ) : Type 0 where
-  pub counts_room : n ≤ length counts
-  pub tally_room : n ≤ length tally
-  pub small : (i : ℕ) → i < n → get_or tally i 0 + get_or counts i 0 ≤ max_tally
+-- counts can be added to the first numbers of a tally
+pub record Addends (counts tally : List ℕ) : Type 0 where
+  pub tally_room : length counts ≤ length tally
+  pub small : (i : ℕ) → i < length counts → get_or tally i 0 + get_or counts i 0 ≤ max_tally
 
 -- a round that goes on, and bits enough for it
 pub record Closable (denominator rounds : ℕ) (bits : List ℕ) : Type 0 where

@@ -1,12 +1,11 @@
 // Drawing in a campaign: a number that is not yet taken, and its array. What every run of draws after a start is held to stands in `demands`.
 #![tactic(auto)]
 
-ghost use Rattle.std.specs.Prelude.{◌≡◌, map, ◌+◌, get_or};
+ghost use Rattle.std.specs.Prelude.{◌≡◌, map, ◌+◌, length, get_or, None, Some, MatchResult};
 ghost use Rattle.base.specs.Lists.{tabulate};
 ghost use Rattle.base.specs.Buffers.{written};
 ghost use Rattle.records.specs.Record.{record_of};
 ghost use Rattle.campaign_draw.specs.Draw.{campaign_refusal, ask, made, Draws};
-ghost use Rattle.campaign_start.specs.Clauses.{sizes_or};
 ghost use Rattle.campaign_draw.specs.Clauses.{Addends};
 ghost use Rattle.campaign_draw.specs.Examples.{outcome_of, draws};
 
@@ -14,33 +13,34 @@ use crate::round::close_round;
 use bits::{bit, set_bit};
 use campaign_start::room::open_for;
 use drawing::write_array;
-use form::Sizes;
-use records::{MAX_ROUNDS, Record};
+use opening::open::OpenPlan;
 use records::fit::fits;
+use records::{MAX_ROUNDS, Record};
 use refusals::Refusal;
 
 mod round;
 
-// The sizes of the plan if the draw is accepted, or the first refusal that applies. Nothing is written.
-fn draw_opened(
-    plan: &[u8],
+// The plan if the draw is accepted, or the first refusal that applies. Nothing is written.
+fn draw_opened<'a>(
+    plan: &'a [u8],
     number: u32,
     record: Record,
     bits: &[u8],
     tally: &[u64],
     room: usize,
-) -> Result<Sizes, Refusal>
-    ensures { result ≡ sizes_or plan.now
-        (campaign_refusal plan.now number (record_of «record».taken «record».rounds bits.now tally.now) room) }
+) -> Result<OpenPlan<'a>, Refusal>
+    ensures { let due = campaign_refusal plan.now number (record_of «record».taken «record».rounds bits.now tally.now) room in
+        MatchResult result (λ p. (p.plan.bytes.now ≡ plan.now) × (due ≡ None)) (λ x. due ≡ Some x) }
 {
-    let s = open_for(plan, bits, tally)?;
+    let p = open_for(plan, bits, tally)?;
+    let s = p.plan.sizes;
     if room < s.rows * s.columns {
         return Err(Refusal::Buffer);
     }
     if s.denominator <= number {
         return Err(Refusal::Number);
     }
-    if !fits(plan, s, record, bits, tally) {
+    if !fits(&p, record, bits, tally) {
         return Err(Refusal::Record);
     }
     if MAX_ROUNDS <= record.rounds {
@@ -49,17 +49,17 @@ fn draw_opened(
     if bit(bits, number as usize) != 0 {
         return Err(Refusal::Taken);
     }
-    Ok(s)
+    Ok(p)
 }
 
-// Adds the first `cells` counts to the tally.
-fn add_counts(counts: &[u16], cells: usize, tally: &mut [u64])
-    requires { Addends cells counts.now tally.old }
+// Adds counts to the first numbers of the tally.
+fn add_counts(counts: &[u16], tally: &mut [u64])
+    requires { Addends counts.now tally.old }
     ensures { tally.new
-        ≡ written (tabulate cells (λ i. get_or tally.old i 0 + get_or counts.now i 0)) tally.old }
+        ≡ written (tabulate (length counts.now) (λ i. get_or tally.old i 0 + get_or counts.now i 0)) tally.old }
 {
-    for i in 0..cells {
-        tally[i] = tally[i] + u64::from(counts[i]);
+    for (i, n) in counts.iter().enumerate() {
+        tally[i] += u64::from(*n);
     }
 }
 
@@ -76,9 +76,11 @@ pub fn draw(
         (made plan.now (record_of «record».old.taken «record».old.rounds bits.old tally.old) (ask number counts.old))
         result (record_of «record».new.taken «record».new.rounds bits.new tally.new) counts.new }
 {
-    let s = draw_opened(plan, number, *record, bits, tally, counts.len())?;
-    write_array(plan, s, number, counts);
-    add_counts(counts, s.rows * s.columns, tally);
+    let p = draw_opened(plan, number, *record, bits, tally, counts.len())?;
+    let s = p.plan.sizes;
+    let cells = s.rows * s.columns;
+    write_array(&p, number, counts);
+    add_counts(&counts[..cells], tally);
     set_bit(bits, number as usize);
     record.taken += 1;
     close_round(s.denominator, record, bits);

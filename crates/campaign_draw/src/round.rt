@@ -1,7 +1,6 @@
 // The end of a round.
 ghost use Rattle.campaign_draw.specs.Clauses.{Closable, Closes};
 
-use bits::clear_bytes;
 use records::Record;
 
 // What an accepted draw leaves, with its number counted and its bit set: where no number is free any more, a round is added, all numbers are freed and the
@@ -13,7 +12,7 @@ pub fn close_round(denominator: u32, record: &mut Record, bits: &mut [u8])
     if record.taken != denominator {
         return;
     }
-    clear_bytes(bits, (denominator as usize + 7) / 8);
+    bits[..(denominator as usize).div_ceil(8)].fill(0);
     record.taken = 0;
     record.rounds += 1;
 }
