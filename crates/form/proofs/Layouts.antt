@@ -1,10 +1,9 @@
 -- Where bodies begin, and what the tests of a layout say on each way through them. Assumes nothing.
-use mathlib.Core.Path.{◌≡◌, refl, sym, ap, ◌∙◌}
+use mathlib.Core.Path.{◌≡◌, sym, ◌∙◌}
 use mathlib.Core.Bool.{Bool, true, false, not, ◌&&◌, and-false}
 use mathlib.Core.List.{List}
-use Prim.Native.Nat.{ℕ, zero, suc, ◌+◌, ◌-◌, ◌*◌, ◌^◌, ◌<◌, ◌≤◌}
+use Prim.Native.Nat.{ℕ, zero, suc, ◌*◌, ◌^◌, ◌<◌, ◌≤◌}
 use native.Mathlib.Nat.{mul-le-mul, mul-le-mul_right, one-le-mul}
-use native.Mathlib.Numerals.{add-one}
 use native.Mathlib.Omega.{arith}
 use lib.ListN.{length}
 use Rattle.std.specs.Bool.{MatchBool}
@@ -23,17 +22,6 @@ use Rattle.table.proofs.Checks.{up_to_low, up_to_high}
 use Rattle.form.specs.declared.Sizes.{Sizes}
 use Rattle.form.specs.Form.{body_at, plan_length, min_length, max_length, form_of, rows_of, columns_of, arrays_of, zero_of, denominator_of, sizes_of, length_of, start_right, head_right, laid_out}
 use Rattle.form.specs.Clauses.{Bounded, Contents, offsets_right, Laid}
-
--- where bodies begin, and how long a plan is
-pub table_first : (r c k i : ℕ) → i ≡ 0 → 8 + 8 * (k + 1) ≡ body_at r c k i
-table_first r c k i e = rw e refl
-
-pub body_later : (r c k i : ℕ) → (i ≡ 0 → ⊥) → 8 + 8 * (k + 1) + 4 * (r * c) + (i - 1) * (2 * (r * c)) ≡ body_at r c k i
-body_later r c k zero h = absurd (h refl)
-body_later r c k (suc i) h = let e : suc i - 1 ≡ i = omega arith in rw e refl
-
-pub body_end : (r c k : ℕ) → body_at r c k (k + 1) ≡ plan_length r c k
-body_end r c k = ap (body_at r c k) (add-one k)
 
 -- a plan has at least 30 bytes and at most 50,912
 pub plan_least : {r c k : ℕ} → 1 ≤ r → 1 ≤ c → 1 ≤ k → min_length ≤ plan_length r c k
@@ -55,25 +43,10 @@ module _ {r c k : ℕ} (s : Bounded r c k) where
   pub cells_fit : Fits w64 (r * c)
   cells_fit = record { fits = omega (arith, cells_few) }
 
-  pub cells_small : Fits w64 (4 * (r * c))
-  cells_small = record { fits = omega (arith, cells_few) }
-
-  pub counts_small : Fits w64 (2 * (r * c))
-  counts_small = record { fits = omega (arith, cells_few) }
-
-  pub table_small : Fits w64 (8 + 8 * (k + 1) + 4 * (r * c))
-  table_small = record { fits = omega (arith, plan_most s) }
-
   -- j bodies of arrays end within the plan
   module _ (j : ℕ) (h : j ≤ k) where
     pub within : j * (2 * (r * c)) ≤ k * (2 * (r * c))
     within = mul-le-mul_right (2 * (r * c)) h
-
-    pub before_small : Fits w64 (j * (2 * (r * c)))
-    before_small = record { fits = omega (arith, plan_most s, within) }
-
-    pub body_small : Fits w64 (8 + 8 * (k + 1) + 4 * (r * c) + j * (2 * (r * c)))
-    body_small = record { fits = omega (arith, plan_most s, within) }
 
   pub offset_fits : (i : ℕ) → i ≤ k → body_at r c k i < 2 ^ 32
   offset_fits zero h = omega (arith, plan_most s)
@@ -113,12 +86,6 @@ module _ (b : List ℕ) (h : start_right b ≡ true) where
 
   pub length_most : length_of b ≤ max_length
   length_most = plan_most (started b h).sizes
-
-  pub length_bounded : (r c k : ℕ) → r ≡ rows_of b → c ≡ columns_of b → k ≡ arrays_of b → Bounded r c k
-  length_bounded r c k re ce ke = rw (re, ce, ke) (started b h).sizes
-
-pub length_by : (b : List ℕ) (r c k n : ℕ) → r ≡ rows_of b → c ≡ columns_of b → k ≡ arrays_of b → n ≡ plan_length r c k → n ≡ length_of b
-length_by b r c k n re ce ke e = rw (re, ce, ke) at e
 
 -- what a head that passed its tests says
 pub record Headed (b : List ℕ) : Type 0 where

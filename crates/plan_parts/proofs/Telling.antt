@@ -6,8 +6,6 @@ use Prim.Native.Nat.{ℕ, ◌*◌, ◌<◌, ◌≤◌}
 use native.Mathlib.Omega.{arith}
 use lib.ListN.{length}
 use lib.Dec.{ltb}
-use mir.Val.{Fits}
-use mir.Syntax.{w64}
 use borrow.Author.Tests.{lt-ltb, le-ltb}
 use Rattle.base.specs.Buffers.{written}
 use Rattle.refusals.specs.declared.Refusal.{Refusal}
@@ -21,7 +19,7 @@ use Rattle.reading.specs.Clauses.{Sized}
 use Rattle.reading.proofs.Sizing.{cells_are}
 use Rattle.form.proofs.Layouts.{laid}
 use Rattle.opening.specs.Open.{open_tests, open_refusal, open_answer, part_refusal}
-use Rattle.opening.proofs.Opening.{is_open, is_refused, opened_sized, sizes_product}
+use Rattle.opening.proofs.Opening.{is_open, is_refused, opened_sized}
 use Rattle.plan_parts.specs.Sizes.{size_numbers}
 use Rattle.plan_parts.specs.Clauses.{SizesReady}
 
@@ -72,9 +70,6 @@ module _ (b old : List ℕ) where
 
     pub sizes_told : {new : List ℕ} → 4 ≤ length old → new ≡ written (s.rows ∷ s.columns ∷ s.arrays ∷ s.denominator ∷ []) old → SizesAnswer (Ok tt) new
     sizes_told h w = told b old 4 (length old) e h (rw sized.sizes at w)
-
-    pub cells_product : Fits w64 (s.rows * s.columns)
-    cells_product = sizes_product b s e
 
     pub cells_short : length old < s.rows * s.columns → CellsAnswer (Err Buffer) old
     cells_short h = too_short b old (cell_count (decode b)) (length old) e (omega (arith, cells_count))

@@ -1,11 +1,9 @@
 -- Laws on writing a plan that a caller holds in buffers. Assumes nothing.
 use mathlib.Core.Path.{◌≡◌, refl, sym, ap, ◌∙◌}
 use mathlib.Core.List.{List, ◌++◌}
-use Prim.Native.Nat.{ℕ, zero, suc, ◌+◌, ◌-◌, ◌*◌, ◌<◌}
+use Prim.Native.Nat.{ℕ, zero, suc, ◌+◌, ◌*◌, ◌<◌}
 use native.Mathlib.Omega.{arith}
 use lib.ListN.{length, get_or, length-append}
-use mir.Val.{Fits}
-use mir.Syntax.{w32}
 use Rattle.base.specs.Lists.{tabulate, join_to}
 use Rattle.base.specs.Buffers.{written, put_at}
 use Rattle.base.proofs.Lists.{length_tabulate, get_d_tabulate}
@@ -16,20 +14,12 @@ use Rattle.weighted_arrays.specs.Plan.{Weighted, array_at}
 use Rattle.byte_numbers.specs.Bytes.{bytes}
 use Rattle.form.specs.Form.{head, contents_entry, body_at, amount_in, encode}
 use Rattle.form.specs.Clauses.{Bounded}
-use Rattle.form.proofs.Layouts.{offset_fits}
 use Rattle.form.proofs.Encodings.{length_entry, length_head}
 use Rattle.byte_numbers.proofs.Held.{length_numbers}
 use Rattle.writing.specs.Clauses.{buffered_array, buffered_plan, buffered_amount, buffered_entry, numbers, Listed, Writable}
 
 -- the entries of the contents
-pub amount_later : (d : ℕ) (weights : List ℕ) (i : ℕ) → (i ≡ 0 → ⊥) → get_or weights (i - 1) 0 ≡ buffered_amount d weights i
-amount_later d weights zero h = absurd (h refl)
-amount_later d weights (suc i) h = let e : suc i - 1 ≡ i = omega arith in rw e refl
-
 module _ {s : Sizes} {weights old : List ℕ} (l : Listed s weights old) {i end : ℕ} (h : i < end) (q : end ≡ s.arrays + 1) where
-  pub offset_small : {offset : ℕ} → offset ≡ body_at s.rows s.columns s.arrays i → Fits w32 offset
-  offset_small e = record { fits = omega (arith, offset_fits l.sizes i (omega arith)) }
-
   pub entries_more : (mid new : List ℕ) → Put old 8 (join_to i (buffered_entry s weights)) mid
       → (amount offset : ℕ) → amount ≡ buffered_amount s.denominator weights i → offset ≡ body_at s.rows s.columns s.arrays i
       → new ≡ put_at mid (8 + 8 * i) (contents_entry amount offset) → Put old 8 (join_to (i + 1) (buffered_entry s weights)) new
