@@ -125,7 +125,7 @@ impl EntryBounds {
     }
 
     // Whether each entry of one kind of an array lies between its bounds, which stand from a place on.
-    // stays: how many do not is counted, so that a machine compares several at once. With `all`, which leaves at the first, opening a plan takes a fifth longer.
+    // stays: how many do not is counted, so that a machine compares several at once; with `all` opening a plan takes a fifth longer.
     fn lines_hold(&self, counts: &[u16], k: Lines, from: usize) -> bool
         requires { KindHeld k from counts.now self.now.low self.now.high }
         ensures { result ≡ lines_between counts.now self.now.low self.now.high k from }
