@@ -1,6 +1,6 @@
 -- From an accepted table to the buffer that its rounding is written to. Assumes nothing.
-use Rattle.std.specs.Prelude.{Some, None, Result, Ok, Err}
-use mathlib.Core.Path.{◌≡◌, ap, ◌∙◌}
+use Rattle.std.specs.Prelude.{Some, None, Ok, Err}
+use mathlib.Core.Path.{◌≡◌, refl, ap, ◌∙◌}
 use mathlib.Core.Bool.{true}
 use mathlib.Core.List.{List}
 use Prim.Native.Nat.{ℕ, ◌*◌, ◌<◌, ◌≤◌}
@@ -53,25 +53,22 @@ module _ {r c d : ℕ} {g : List ℕ} (t : IsTable r c d g) where
         (ap (λ (l : List ℕ). tabulate (r * c) (grid_cell l c)) (o.is r c g t.shape is) ∙ cells_of_grid array_shape)
 
 -- the ways through the call
-module _ (r c d : ℕ) (g : List ℕ) (room : ℕ) {k : Result Table Refusal} (e : k ≡ check_of r c d g) where
-  pub refused : {x : Refusal} → k ≡ Err x → round_refusal r c d g room ≡ Some x
+module _ (r c d : ℕ) (g : List ℕ) (room : ℕ) where
+  pub refused : {x : Refusal} → check_of r c d g ≡ Err x → round_refusal r c d g room ≡ Some x
   unfolding round_refusal
-  refused h = refused_table r c d g room (r * c) _ (not_taken r c d g e _ h)
+  refused h = refused_table r c d g room (r * c) _ (not_taken r c d g refl _ h)
 
-  module _ {t : Table} (h : k ≡ Ok t) where
+  module _ {t : Table} (h : check_of r c d g ≡ Ok t) where
     told : Taken r c d g t
-    told = taken r c d g e t h
+    told = taken r c d g refl t h
 
-    pub is_table : IsTable t.rows t.columns t.denominator g
-    is_table = rw told.sizes told.table
-
-    pub short : room < t.rows * t.columns → round_refusal r c d g room ≡ Some Buffer
+    pub short : room < length g → round_refusal r c d g room ≡ Some Buffer
     unfolding round_refusal
-    short l = refused_buffer r c d g room (r * c) told.nothing_due (rw told.sizes at l)
+    short l = refused_buffer r c d g room (r * c) told.nothing_due (omega (arith, told.table.shape.cells))
 
-    pub enough : t.rows * t.columns ≤ room → round_refusal r c d g room ≡ None
+    pub enough : length g ≤ room → round_refusal r c d g room ≡ None
     unfolding round_refusal
-    enough l = refused_nothing r c d g room (r * c) told.nothing_due (rw told.sizes at l)
+    enough l = refused_nothing r c d g room (r * c) told.nothing_due (omega (arith, told.table.shape.cells))
 
     pub done : (old new : List ℕ) → new ≡ written (first_rounding t.rows t.columns t.denominator g) old → new ≡ written (first_rounding r c d g) old
     done old new f = rw told.sizes at f

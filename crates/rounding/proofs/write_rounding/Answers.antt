@@ -5,14 +5,14 @@ use Rattle.rounding.proofs.write_rounding.Goals as goal
 
 pub round_grid-requires : goal.round_grid-requires
 round_grid-requires c = record {
-  grid = table_grid c.requires.table _ c.entries-e.ensures;
-  some = c.requires.table.some_denominator;
+  grid = table_grid c.args.t.now.accepted _ c.entries-e.ensures;
+  some = c.args.t.now.accepted.some_denominator;
   low_len = refl;
   len = refl;
 }
 
 pub write_cells-requires : goal.write_cells-requires
-write_cells-requires c = cells_ready c.requires.table c.entries-e.ensures c.round_grid.ensures.array _ c.requires.room
+write_cells-requires c = cells_ready c.args.t.now.accepted c.entries-e.ensures c.round_grid.ensures.array _ c.requires
 
 pub returns : goal.returns
-returns c = rounding_written c.requires.table c.entries-e.ensures c.round_grid.ensures.array c.requires.room c.write_cells.ensures
+returns c = rounding_written c.args.t.now.accepted c.entries-e.ensures c.round_grid.ensures.array c.requires c.write_cells.ensures
