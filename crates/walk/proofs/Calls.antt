@@ -15,7 +15,7 @@ use Rattle.refusals.specs.declared.Refusal.TheVariants.{LargeCell, Buffer, NotRo
 use Rattle.refusals.specs.Due.{Test, refuse, due, answer_of, after, Answers}
 use Rattle.refusals.proofs.Dues.{due_next, due_first, due_second, not_here, not_later}
 use Rattle.table.specs.Check.{table_refusal, cells_within, size_test, denominator_test, count_test, BelowZero}
-use Rattle.table.specs.Clauses.{IsTable, answered, check_of, check_of_cells}
+use Rattle.table.specs.Clauses.{answered, check_of, check_of_cells}
 use Rattle.table.specs.declared.Table.{Table}
 use Rattle.table.proofs.Checks.{answered_refused, answered_nothing, answered_sizes, passed_all, below_zero}
 use Rattle.is_rounding.specs.Rounding.{two_ways, is_rounding}
@@ -58,13 +58,13 @@ module _ (r c d : ℕ) (g : List ℕ) where
 
   -- the check, and the first call, in which the table's own follows
   module _ {k : Result ⊤ Refusal} (e : k ≡ sides_check r c) where
-    pub large_refused : {x : Refusal} → k ≡ Err x → Err x ≡ walk_check r c d g
+    pub large_refused : {x : Refusal} → k ≡ Err x → walk_check r c d g ≡ Err x
     unfolding walk_check
-    large_refused h = ap (answered r c d) (sym (sides_due r c e h later))
+    large_refused h = ap (answered r c d) (sides_due r c e h later)
 
-    pub small_checked : k ≡ Ok tt → {t : Result Table Refusal} → t ≡ check_of r c d g → t ≡ walk_check r c d g
+    pub small_checked : k ≡ Ok tt → check_of r c d g ≡ walk_check r c d g
     unfolding walk_check check_of check_of_cells
-    small_checked h q = q ∙ ap (answered r c d) (sym (small_due r c e h later))
+    small_checked h = ap (answered r c d) (sym (small_due r c e h later))
 
     pub first_refused : {x : Refusal} → k ≡ Err x → (room : ℕ) → first_refusal r c d g room ≡ Some x
     unfolding first_refusal
@@ -98,26 +98,26 @@ module _ (r c d : ℕ) (g : List ℕ) where
         }
 
 -- what the check's answer says
-module _ (r c d : ℕ) (g : List ℕ) {k : Result Table Refusal} (e : k ≡ walk_check r c d g) where
-  not_taken : {x : Refusal} → k ≡ Err x → due (walk_tests r c d g) ≡ Some x
+module _ (r c d : ℕ) (g : List ℕ) where
+  not_taken : {x : Refusal} → walk_check r c d g ≡ Err x → due (walk_tests r c d g) ≡ Some x
   unfolding walk_check
-  not_taken {x} h = answered_refused r c d (due (walk_tests r c d g)) x (sym h ∙ e)
+  not_taken {x} h = answered_refused r c d (due (walk_tests r c d g)) x (sym h)
 
-  pub next_refused : (n : List ℕ) (room : ℕ) {x : Refusal} → k ≡ Err x → next_refusal r c d g n room ≡ Some x
+  pub next_refused : (n : List ℕ) (room : ℕ) {x : Refusal} → walk_check r c d g ≡ Err x → next_refusal r c d g n room ≡ Some x
   unfolding next_refusal
   next_refused n room {x} h = due_first (walk_tests r c d g) (array_tests r c d g n room) x (not_taken h)
 
-  module _ {t : Table} (h : k ≡ Ok t) where
+  module _ {t : Table} (h : walk_check r c d g ≡ Ok t) where
     nothing : due (walk_tests r c d g) ≡ None
     unfolding walk_check
-    nothing = answered_nothing r c d (due (walk_tests r c d g)) t (sym h ∙ e)
+    nothing = answered_nothing r c d (due (walk_tests r c d g)) t (sym h)
 
     sizes : t ≡ record { rows = r; columns = c; denominator = d }
     unfolding walk_check
-    sizes = answered_sizes r c d (due (walk_tests r c d g)) t (sym h ∙ e)
+    sizes = answered_sizes r c d (due (walk_tests r c d g)) t (sym h)
 
-    pub is_table : IsTable t.rows t.columns t.denominator g
-    is_table = rw sizes (passed_all r c d g (nothing_table r c d g nothing))
+    many : length g ≡ r * c
+    many = (passed_all r c d g (nothing_table r c d g nothing)).shape.cells
 
     pub is_small : Small t.rows t.columns
     is_small = rw sizes (nothing_small r c d g nothing)
@@ -132,20 +132,17 @@ module _ (r c d : ℕ) (g : List ℕ) {k : Result Table Refusal} (e : k ≡ walk
       no_rounding l room = due_second (walk_tests r c d g) (array_tests r c d g n room) nothing ∙ simp (sym tested ∙ l)
 
       module _ (l : b ≡ true) where
-        pub rounds_so : is_rounding (two_ways t.rows t.columns) t.denominator g n ≡ true
-        rounds_so = sym f ∙ l
-
         module _ (room : ℕ) where
-          pub next_short : room < t.rows * t.columns → next_refusal r c d g n room ≡ Some Buffer
+          pub next_short : room < length g → next_refusal r c d g n room ≡ Some Buffer
           unfolding next_refusal due
           next_short s =
-              let m : room < r * c = rw sizes at s in
+              let m : room < r * c = omega (arith, many) in
               due_second (walk_tests r c d g) (array_tests r c d g n room) nothing ∙ simp (sym tested ∙ l, lt-ltb room (r * c) m)
 
-          pub next_enough : t.rows * t.columns ≤ room → next_refusal r c d g n room ≡ None
+          pub next_enough : length g ≤ room → next_refusal r c d g n room ≡ None
           unfolding next_refusal due
           next_enough s =
-              let m : r * c ≤ room = rw sizes at s in
+              let m : r * c ≤ room = omega (arith, many) in
               due_second (walk_tests r c d g) (array_tests r c d g n room) nothing ∙ simp (sym tested ∙ l, le-ltb room (r * c) m)
 
     pub found_so : (n : List ℕ) {old new : List ℕ} {b : Bool} → Found (next_rounding t.rows t.columns t.denominator g n) old b new

@@ -1,7 +1,7 @@
 // The two calls of a walk through all controlled roundings of a small table: the first of them, and the one after a given one.
 #![tactic(auto)]
 
-ghost use Rattle.std.specs.Prelude.{◌≡◌, map, length};
+ghost use Rattle.std.specs.Prelude.{◌≡◌, map, length, Ok, Err, MatchResult};
 ghost use Rattle.base.specs.Buffers.{written};
 ghost use Rattle.refusals.specs.Due.{Answers};
 ghost use Rattle.first_rounding.specs.First.{first_rounding};
@@ -13,8 +13,7 @@ use is_rounding::is_rounding;
 use next_rounding::write_next;
 use refusals::Refusal;
 use rounding::round;
-use table::Table;
-use table::check::{check, size_within};
+use table::check::{Accepted, accept, size_within};
 
 // the most rows, and the most columns, of a table for a walk
 pub const MAX_SIDE: u32 = 4;
@@ -47,12 +46,19 @@ fn check_sides(rows: u32, columns: u32) -> Result<(), Refusal>
     Ok(())
 }
 
-// The table's sizes, or the first refusal that applies.
-fn check_small(rows: u32, columns: u32, denominator: u32, cells: &[u32]) -> Result<Table, Refusal>
-    ensures { result ≡ walk_check rows columns denominator cells.now }
+// The table of these numbers, or the first refusal that applies.
+fn check_small<'a>(
+    rows: u32,
+    columns: u32,
+    denominator: u32,
+    cells: &'a [u32],
+) -> Result<Accepted<'a>, Refusal>
+    ensures { MatchResult result
+        (λ t. (t.cells.now ≡ cells.now) × (walk_check rows columns denominator cells.now ≡ Ok t.sizes))
+        (λ x. walk_check rows columns denominator cells.now ≡ Err x) }
 {
     check_sides(rows, columns)?;
-    check(rows, columns, denominator, cells)
+    accept(rows, columns, denominator, cells)
 }
 
 // Writes the first controlled rounding of a table, or returns the first refusal that applies.
@@ -83,13 +89,13 @@ pub fn next(
     ensures buffer { counts.new ≡ next_left rows columns denominator cells.now array.now counts.old }
 {
     let t = check_small(rows, columns, denominator, cells)?;
-    if !is_rounding(t, cells, array) {
+    if !is_rounding(&t, array) {
         return Err(Refusal::NotRounding);
     }
-    if counts.len() < t.rows * t.columns {
+    if counts.len() < t.cells.len() {
         return Err(Refusal::Buffer);
     }
-    if write_next(t, cells, array, counts) {
+    if write_next(&t, array, counts) {
         return Ok(Step::Next);
     }
     Ok(Step::Last)

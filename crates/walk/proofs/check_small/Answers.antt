@@ -8,4 +8,4 @@ returns-in_err-check_sides c =
     rw (p.1, p.2) (large_refused _ _ _ _ c.check_sides.ensures c.in_err-check_sides.was)
 
 pub returns : goal.returns
-returns c = small_checked _ _ _ _ c.check_sides.ensures c.in_ok-check_sides.was c.check.ensures
+returns c = rw (small_checked _ _ _ _ c.check_sides.ensures c.in_ok-check_sides.was) at c.accept.ensures

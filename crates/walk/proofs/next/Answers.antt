@@ -1,48 +1,40 @@
+use mathlib.Core.Path.{sym, ◌∙◌}
+use native.Mathlib.Omega.{arith}
 use Rattle.std.proofs.lemmas.Result.{err_from_is_err_and}
-use Rattle.table.proofs.Totals.{small_product}
-use Rattle.walk.proofs.Calls.{is_table, is_small, next_refused, no_rounding, rounds_so, next_short, next_enough, found_so, refused_answer, refused_left, found_left, next_so, last_so}
+use Rattle.walk.proofs.Calls.{is_small, next_refused, no_rounding, next_short, next_enough, found_so, refused_answer, refused_left, found_left, next_so, last_so}
 use Rattle.walk.proofs.next.Goals as goal
 
 pub returns-in_err-t : goal.returns-in_err-t
 returns-in_err-t c =
     let p = err_from_is_err_and c.from_residual.result c.from_residual.ensures.1 in
-    let due = next_refused _ _ _ _ c.check_small.ensures _ _ c.in_err-t.was in
+    let due = next_refused _ _ _ _ _ _ c.in_err-t.ensures in
     record { answer = rw (p.1, p.2) (refused_answer _ _ _ _ _ _ due); buffer = refused_left _ _ _ _ _ _ due }
-
-pub is_rounding-requires : goal.is_rounding-requires
-is_rounding-requires c = is_table _ _ _ _ c.check_small.ensures c.in_ok-t.was
 
 pub returns-then-not-is_rounding : goal.returns-then-not-is_rounding
 returns-then-not-is_rounding c =
-    let due = no_rounding _ _ _ _ c.check_small.ensures c.in_ok-t.was _ c.is_rounding.ensures c.if-not-is_rounding.true _ in
+    let due = no_rounding _ _ _ _ c.in_ok-t.ensures.1 _ (rw c.in_ok-t.ensures.0 at c.is_rounding.ensures) c.if-not-is_rounding.true _ in
     record { answer = refused_answer _ _ _ _ _ _ due; buffer = refused_left _ _ _ _ _ _ due }
-
-pub overflow_mul-t : goal.overflow_mul-t
-overflow_mul-t c =
-    let t = is_table _ _ _ _ c.check_small.ensures c.in_ok-t.was in
-    small_product t.shape.rows t.shape.columns
 
 pub returns-then-counts-t : goal.returns-then-counts-t
 returns-then-counts-t c =
-    let due = next_short _ _ _ _ c.check_small.ensures c.in_ok-t.was _ c.is_rounding.ensures c.if-not-is_rounding.false _ c.if-counts-t.true in
+    let due = next_short _ _ _ _ c.in_ok-t.ensures.1 _ (rw c.in_ok-t.ensures.0 at c.is_rounding.ensures) c.if-not-is_rounding.false _ (rw c.in_ok-t.ensures.0 at c.if-counts-t.true) in
     record { answer = refused_answer _ _ _ _ _ _ due; buffer = refused_left _ _ _ _ _ _ due }
 
 pub write_next-requires : goal.write_next-requires
 write_next-requires c = record {
-  table = is_table _ _ _ _ c.check_small.ensures c.in_ok-t.was;
-  small = is_small _ _ _ _ c.check_small.ensures c.in_ok-t.was;
-  rounding = rounds_so _ _ _ _ c.check_small.ensures c.in_ok-t.was _ c.is_rounding.ensures c.if-not-is_rounding.false;
-  room = c.if-counts-t.false;
+  small = is_small _ _ _ _ c.in_ok-t.ensures.1;
+  rounding = sym c.is_rounding.ensures ∙ c.if-not-is_rounding.false;
+  room = omega (arith, c.in_ok-t.t.accepted.shape.cells);
 }
 
 pub returns-then-write_next : goal.returns-then-write_next
 returns-then-write_next c =
-    let nothing = next_enough _ _ _ _ c.check_small.ensures c.in_ok-t.was _ c.is_rounding.ensures c.if-not-is_rounding.false _ c.if-counts-t.false in
-    let found = found_so _ _ _ _ c.check_small.ensures c.in_ok-t.was _ c.write_next.ensures in
+    let nothing = next_enough _ _ _ _ c.in_ok-t.ensures.1 _ (rw c.in_ok-t.ensures.0 at c.is_rounding.ensures) c.if-not-is_rounding.false _ (rw c.in_ok-t.ensures.0 at c.if-counts-t.false) in
+    let found = found_so _ _ _ _ c.in_ok-t.ensures.1 _ (rw c.in_ok-t.ensures.0 at c.write_next.ensures) in
     record { answer = next_so _ _ _ _ _ _ nothing found c.if-write_next.true; buffer = found_left _ _ _ _ _ _ nothing found }
 
 pub returns : goal.returns
 returns c =
-    let nothing = next_enough _ _ _ _ c.check_small.ensures c.in_ok-t.was _ c.is_rounding.ensures c.if-not-is_rounding.false _ c.if-counts-t.false in
-    let found = found_so _ _ _ _ c.check_small.ensures c.in_ok-t.was _ c.write_next.ensures in
+    let nothing = next_enough _ _ _ _ c.in_ok-t.ensures.1 _ (rw c.in_ok-t.ensures.0 at c.is_rounding.ensures) c.if-not-is_rounding.false _ (rw c.in_ok-t.ensures.0 at c.if-counts-t.false) in
+    let found = found_so _ _ _ _ c.in_ok-t.ensures.1 _ (rw c.in_ok-t.ensures.0 at c.write_next.ensures) in
     record { answer = last_so _ _ _ _ _ _ nothing found c.if-write_next.false; buffer = found_left _ _ _ _ _ _ nothing found }
