@@ -32,7 +32,6 @@ use Rattle.table.specs.Table as natural-table
 use Rattle.table.specs.Whole as natural-whole
 use Rattle.is_rounding.specs.Rounding as rounding
 use Rattle.first_rounding.specs.First as natural
-use Rattle.rounding.specs.Clauses.{TableReady}
 use Rattle.first_rounding.proofs.Existence.{first_exists}
 use Rattle.first_rounding.proofs.Roundings.{rounding_length}
 use Rattle.corrections.specs.Rounding.{IsFirst, first_rounding}
@@ -73,8 +72,11 @@ module _ (r c d : ℕ) (g : List ℤ) (a : table_refusal r c d g ≡ None) where
   rests_table : IsTable r c d (rests d g)
   rests_table = sized_table (rw (sym rests_length) at sizes) (λ k h. omega (arith, rest_at k, (parts_of d (get_or g k (pos 0)) some).small))
 
+  pub few : r * c ≤ 144
+  few = few_cells rests_table.shape
+
   pub rests_ready : {old : List ℕ} → length old ≡ 144 → RestsReady d g old
-  rests_ready e = record { some = some; denominator = sizes.denominator; room = omega (arith, e, few_cells rests_table.shape, sizes.count) }
+  rests_ready e = record { some = some; denominator = sizes.denominator; room = omega (arith, e, few, sizes.count) }
 
   -- the multiples that are set aside, and the first controlled rounding of what is left over
   wholes : List ℤ
@@ -128,8 +130,8 @@ module _ (r c d : ℕ) (g : List ℤ) (a : table_refusal r c d g ≡ None) where
     pub prefix_length : length g ≡ length (take (length g) out)
     prefix_length = sym (ap length prefix_is ∙ rests_length)
 
-    pub rounding_ready : {room : List ℕ} → length room ≡ 144 → TableReady r c d (take (length g) out) room
-    rounding_ready m = record { table = rw prefix_is rests_table; room = omega (arith, m, few_cells rests_table.shape) }
+    pub left_table : IsTable r c d (take (length g) out)
+    left_table = rw prefix_is rests_table
 
     module _ (room : List ℕ) {made : List ℕ} (m : length room ≡ 144) (f : made ≡ written (natural.first_rounding r c d (take (length g) out)) room) where
       made_at : (k : ℕ) → k < length g → get_or made k 0 ≡ get_or firsts k 0
@@ -141,7 +143,7 @@ module _ (r c d : ℕ) (g : List ℤ) (a : table_refusal r c d g ≡ None) where
       pub counts_ready : {buffer : List ℤ} → r * c ≤ length buffer → CountsReady d g made buffer
       counts_ready b = record {
         some = some;
-        few = omega (arith, few_cells rests_table.shape, sizes.count);
+        few = omega (arith, few, sizes.count);
         room = omega (arith, sizes.count);
         fit = λ k h. below d some (get_or g k (pos 0)) (get_or made k 0) (all_elim _ g (pos 0) (accepted_cells r c d g a) k h) (omega (arith, made_at k h, firsts_small k h));
       }

@@ -16,6 +16,7 @@ use correction_check::check;
 use refusals::Refusal;
 use rounding::write_rounding;
 use table::Table;
+use table::check::Accepted;
 
 mod counts;
 
@@ -28,8 +29,12 @@ fn write_counts(t: Table, cells: &[i32], out: &mut [i16])
     let n = cells.len();
     let mut rests = [0u32; 144];
     remainders(cells, t.denominator, &mut rests);
+    let left = Accepted {
+        sizes: t,
+        cells: &rests[..n],
+    };
     let mut firsts = [0u16; 144];
-    write_rounding(t, &rests[..n], &mut firsts);
+    write_rounding(&left, &mut firsts);
     counts(cells, t.denominator, &firsts, out);
 }
 
