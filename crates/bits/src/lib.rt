@@ -1,8 +1,7 @@
 // A bit for each number, in bytes: number d in bit d mod 8, the lowest first, of byte d / 8.
 #![tactic(auto)]
 
-ghost use Rattle.std.specs.Prelude.{◌≡◌, map, ◌+◌, ◌*◌, ◌/◌, ◌%◌, ◌^◌, ◌<◌, ◌≤◌, length, get_or, set, replicate};
-ghost use Rattle.base.specs.Buffers.{written};
+ghost use Rattle.std.specs.Prelude.{◌≡◌, map, ◌+◌, ◌*◌, ◌/◌, ◌%◌, ◌^◌, ◌<◌, ◌≤◌, length, get_or, set};
 ghost use Rattle.bits.specs.Bits.{bit_of, bit_bytes, spare_clear};
 ghost use Rattle.bits.specs.Clauses.{bits_set, Span, Spared, Unset};
 ghost use Rattle.bits.specs.Examples.{two_bytes, numbers, lengths, spares};
@@ -43,14 +42,6 @@ pub fn set_bit(bits: &mut [u8], d: usize)
     ensures { bits.new ≡ set bits.old (d / 8) (get_or bits.old (d / 8) 0 + 2 ^ (d % 8)) }
 {
     bits[d / 8] += 1 << (d % 8);
-}
-
-// Sets the first bytes to zero.
-pub fn clear_bytes(bytes: &mut [u8], count: usize)
-    requires { count ≤ length bytes.old }
-    ensures { bytes.new ≡ written (replicate count 0) bytes.old }
-{
-    bytes[..count].fill(0);
 }
 
 // The literal cases are as stated: the bit of each number, how many bytes the bits of a denominator take, and which bits are spare.
