@@ -20,6 +20,7 @@ pub fn free_places(cap: &[u8; 169]) -> [u32; 13]
     ensures { FreeOf cap.now result }
 {
     let mut up = [0; 13];
+    // stays: the number of a row says where its places begin
     for p in 0..13 {
         up[p] = nonzero(cap, p * 13);
     }
@@ -41,6 +42,7 @@ impl AllPlaces {
         ensures { BytesOf self.now.free.down self.now.one (row * 13 + 13) b.new }
     {
         let fixed = self.one[row];
+        // stays: a column is looked up by its number in each of three
         for q in 0..13 {
             b[row * 13 + q] = bit_of(self.free.down[q], row, fixed, q);
         }
