@@ -77,17 +77,13 @@ module _ {r c d : ℕ} {g : List ℕ} {k : ℕ} {weights counts : List ℕ} (a :
   }
 
 -- the call above it
-module _ (r c d : ℕ) (g : List ℕ) {k : Result Table Refusal} (e : k ≡ check_of r c d g) where
-  pub refused : {x : Refusal} {old : List ℕ} → k ≡ Err x → PlanAnswers r c d g old (Err x) old
+module _ (r c d : ℕ) (g : List ℕ) where
+  pub refused : {x : Refusal} {old : List ℕ} → check_of r c d g ≡ Err x → PlanAnswers r c d g old (Err x) old
   unfolding plan_refusal
-  refused {x} {old} h = refused_so (refused_table r c d g (length old) _ x (not_taken r c d g e x h))
+  refused {x} {old} h = refused_so (refused_table r c d g (length old) _ x (not_taken r c d g refl x h))
 
-  module _ {t : Table} (h : k ≡ Ok t) where
-    pub is_table : IsTable t.rows t.columns t.denominator g
-    is_table = let u = taken r c d g e t h in rw u.sizes u.table
-
-    pub answered : {old new : List ℕ} {p : Result ℕ Refusal} → PlanAnswers t.rows t.columns t.denominator g old p new → PlanAnswers r c d g old p new
-    answered f = rw (taken r c d g e t h).sizes at f
+  pub answered : {t : Table} → check_of r c d g ≡ Ok t → {old new : List ℕ} {p : Result ℕ Refusal} → PlanAnswers t.rows t.columns t.denominator g old p new → PlanAnswers r c d g old p new
+  answered {t} h f = rw (taken r c d g refl t h).sizes at f
 
 pub number_apart : {r c d : ℕ} {g old new : List ℕ} {p : Result ℕ Refusal} → PlanAnswers r c d g old p new → Apart p
 unfolding plan_answer plan_refusal table_refusal

@@ -1,7 +1,6 @@
 -- What the function that gathers a plan's arrays requires and promises. Assumes nothing.
 use Rattle.std.specs.Prelude.{◌≡◌, List, ℕ, ◌+◌, ◌*◌, ◌<◌, length, get_or}
 use Rattle.table.specs.Table.{max_arrays}
-use Rattle.table.specs.Clauses.{IsTable}
 use Rattle.weighted_arrays.specs.Plan.{array_at}
 use Rattle.planning.specs.Clauses.{Reached}
 
@@ -10,8 +9,7 @@ abbrev pub max_counts : ℕ
 max_counts = 24480
 
 -- what all rounds of an accepted table need: room for each array's weight and counts
-pub record RoundsReady (r c d : ℕ) (g weights counts : List ℕ) : Type 0 where
-  pub table : IsTable r c d g
+pub record RoundsReady (weights counts : List ℕ) : Type 0 where
   pub weights_room : length weights ≡ max_arrays
   pub counts_room : length counts ≡ max_counts
 

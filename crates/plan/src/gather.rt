@@ -4,22 +4,23 @@ ghost use Rattle.plan.specs.Clauses.{RoundsReady, AllGathered};
 use grid::entries;
 use grid::write::write_cells;
 use planning::round::one_round;
-use table::Table;
+use table::check::Accepted;
 
 // The rounds until no weight is left: each array's weight and counts, one after another, and how many there are.
-pub fn gather(t: Table, cells: &[u32], weights: &mut [u32], counts: &mut [u16]) -> usize
-    requires { RoundsReady t.rows t.columns t.denominator cells.now weights.old counts.old }
-    ensures { AllGathered t.rows t.columns t.denominator cells.now result weights.new counts.new }
+pub fn gather(t: &Accepted, weights: &mut [u32], counts: &mut [u16]) -> usize
+    requires { RoundsReady weights.old counts.old }
+    ensures { AllGathered t.now.sizes.rows t.now.sizes.columns t.now.sizes.denominator t.now.cells.now result weights.new counts.new }
 {
-    let mut e = entries(t, cells);
-    let mut w = t.denominator;
+    let s = t.sizes;
+    let mut e = entries(s, t.cells);
+    let mut w = s.denominator;
     let mut k = 0;
     // stays: the rounds end where no weight is left; a `for` over the places for weights would return inside the loop and after it, which is no plainer
     while w > 0 {
         let mut n = [0u64; 169];
         let x = one_round(&mut e, w, &mut n);
         weights[k] = x as u32;
-        write_cells(&n, t.rows, t.columns, counts, k * (t.rows * t.columns));
+        write_cells(&n, s.rows, s.columns, counts, k * (s.rows * s.columns));
         w -= x;
         k += 1;
     }

@@ -3,7 +3,6 @@
 
 ghost use Rattle.std.specs.Prelude.{◌≡◌, List, map, ℕ, None};
 ghost use Rattle.table.specs.Check.{table_refusal};
-ghost use Rattle.table.specs.Clauses.{IsTable};
 ghost use Rattle.plan.specs.Call.{PlanAnswers, planned_number};
 ghost use Rattle.plan.specs.Examples.{calls, planned, said};
 ghost use Rattle.plan.specs.Promises.{Promises};
@@ -13,7 +12,7 @@ use form::Sizes;
 use form::layout::plan_length;
 use refusals::Refusal;
 use table::Table;
-use table::check::check;
+use table::check::{Accepted, accept};
 use writing::write;
 
 mod gather;
@@ -22,15 +21,14 @@ mod gather;
 const COUNTS: usize = 24480;
 
 // Plans an accepted table: the rounds run once, into a scratch of this function, before anything is written.
-fn plan_table(t: Table, cells: &[u32], plan: &mut [u8]) -> Result<u32, Refusal>
-    requires { IsTable t.rows t.columns t.denominator cells.now }
-    ensures { PlanAnswers t.rows t.columns t.denominator cells.now plan.old result plan.new }
+fn plan_table(t: &Accepted, plan: &mut [u8]) -> Result<u32, Refusal>
+    ensures { PlanAnswers t.now.sizes.rows t.now.sizes.columns t.now.sizes.denominator t.now.cells.now plan.old result plan.new }
 {
-    let rows = t.rows;
-    let columns = t.columns;
+    let rows = t.sizes.rows;
+    let columns = t.sizes.columns;
     let mut weights = [0u32; Table::MAX_ARRAYS as usize];
     let mut counts = [0u16; COUNTS];
-    let arrays = gather(t, cells, &mut weights, &mut counts);
+    let arrays = gather(t, &mut weights, &mut counts);
     let length = plan_length(rows, columns, arrays);
     if plan.len() < length {
         return Err(Refusal::Buffer);
@@ -39,9 +37,9 @@ fn plan_table(t: Table, cells: &[u32], plan: &mut [u8]) -> Result<u32, Refusal>
         rows,
         columns,
         arrays,
-        denominator: t.denominator as u32,
+        denominator: t.sizes.denominator as u32,
     };
-    write(s, cells, &weights, &counts, plan);
+    write(s, t.cells, &weights, &counts, plan);
     Ok(length as u32)
 }
 
@@ -55,8 +53,8 @@ pub fn plan(
 ) -> Result<u32, Refusal>
     ensures { PlanAnswers rows columns denominator cells.now plan.old result plan.new }
 {
-    let t = check(rows, columns, denominator, cells)?;
-    plan_table(t, cells, plan)
+    let t = accept(rows, columns, denominator, cells)?;
+    plan_table(&t, plan)
 }
 
 // The number that an answer stands for: the length, which is 30 or more, or the refusal's.
