@@ -1,6 +1,6 @@
 // The reason of an array's weight: the rounds up to its own, each in place of the one before.
 ghost use Rattle.std.specs.Prelude.{◌≡◌, List, ℕ, ◌<◌};
-ghost use Rattle.table.specs.Clauses.{Dividable, Shape, IsTable};
+ghost use Rattle.table.specs.Clauses.{Dividable, Shape};
 ghost use Rattle.grid.specs.Clauses.{grid_of};
 ghost use Rattle.planning.specs.Rounds.{round_on};
 ghost use Rattle.reasons.specs.Reason.{reason_of};
@@ -12,7 +12,7 @@ use grid::entries;
 use limit_search::first_place;
 use planning::round::{next_array, one_round};
 use refusals::Refusal;
-use table::Table;
+use table::check::Accepted;
 use table::whole::divide;
 
 // The entry that stands at a place.
@@ -60,18 +60,18 @@ fn reason_of(e: &[u64; 169], w: u64, rows: usize, columns: usize) -> Explanation
 }
 
 // The reason of the weight of an array, from 1 on, of an accepted table's plan; refused where the rounds end before it.
-pub fn find(t: Table, cells: &[u32], array: u32) -> Result<Explanation, Refusal>
-    requires { IsTable t.rows t.columns t.denominator cells.now }
-    ensures { result ≡ reason_answer t.rows t.columns t.denominator cells.now array }
+pub fn find(t: &Accepted, array: u32) -> Result<Explanation, Refusal>
+    ensures { result ≡ reason_answer t.now.sizes.rows t.now.sizes.columns t.now.sizes.denominator t.now.cells.now array }
 {
-    let mut e = entries(t, cells);
-    let mut w = t.denominator;
+    let s = t.sizes;
+    let mut e = entries(s, t.cells);
+    let mut w = s.denominator;
     for k in 1..=array {
         if w == 0 {
             break;
         }
         if k == array {
-            return Ok(reason_of(&e, w, t.rows, t.columns));
+            return Ok(reason_of(&e, w, s.rows, s.columns));
         }
         let mut n = [0u64; 169];
         w -= one_round(&mut e, w, &mut n);

@@ -9,8 +9,7 @@ ghost use Rattle.reasons.specs.Explained.{Explained};
 
 use crate::find::find;
 use refusals::Refusal;
-use table::Table;
-use table::check::check;
+use table::check::accept;
 
 mod find;
 
@@ -49,8 +48,8 @@ pub fn reason(
 ) -> Result<Explanation, Refusal>
     ensures { result ≡ reason_answer rows columns denominator cells.now array }
 {
-    let t = check(rows, columns, denominator, cells)?;
-    find(t, cells, array)
+    let t = accept(rows, columns, denominator, cells)?;
+    find(&t, array)
 }
 
 // What holds of the reason of every array of an accepted table; and the named entries are the table's, in their order.
