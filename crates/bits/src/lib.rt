@@ -21,6 +21,7 @@ pub fn bits_set(bits: &[u8], from: usize, count: usize) -> u32
     ensures { result ≡ bits_set bits.now from count }
 {
     let mut sum = 0;
+    // stays: bits are found by their numbers, and are no slice
     for j in 0..count {
         sum += bit(bits, from + j);
     }

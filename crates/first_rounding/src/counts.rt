@@ -18,6 +18,7 @@ pub fn quotients(
     requires { QuotientsReady w e.now low.old high.old cap.old }
     ensures { Quotients w e.now low.new high.new cap.new }
 {
+    // stays: of what an adapter of `iter_mut` passes on, a proof knows no value
     for k in 0..169 {
         let d = divide(e[k], w);
         low[k] = d.whole;
@@ -39,6 +40,7 @@ fn totals(high: &[u64; 169], bits: &[u8; 169], n: &mut [u64; 169], line: Line)
     requires { TotalsReady high.now bits.now n.old line.start line.step }
     ensures { Overwritten (taken_off high.now bits.now) line.start line.step n.old n.new 12 }
 {
+    // stays: the places of a line are a step apart
     for i in 0..12 {
         let at = line.place(i);
         n[at] = high[at] - u64::from(bits[at]);
@@ -50,6 +52,7 @@ pub fn counts(low: &[u64; 169], high: &[u64; 169], bits: &[u8; 169], n: &mut [u6
     requires { CountsReady low.now high.now bits.now n.old }
     ensures { n.new ≡ tabulate 169 (count_at low.now high.now bits.now) }
 {
+    // stays: of what an adapter of `iter_mut` passes on, a proof knows no value
     for k in 0..169 {
         n[k] = count(low[k], bits[k]);
     }

@@ -27,6 +27,7 @@ impl Line {
         ensures { result ≡ line_sum l.now self.start self.step }
     {
         let mut sum = 0;
+        // stays: the places are a step apart
         for k in 0..12 {
             sum += l[self.place(k)];
         }

@@ -26,6 +26,7 @@ pub fn needs(low: &[u64; 169], high: &[u64; 169], next: usize, step: usize) -> [
     ensures { Needs low.now high.now next step result }
 {
     let mut n = [0; 13];
+    // stays: a line begins where its number says
     for i in 0..12 {
         let line = Line {
             start: i * next,

@@ -8,6 +8,7 @@ fn write_row(n: &[u64; 169], first: usize, columns: usize, counts: &mut [u16], a
     requires { RowReady n.now first columns (length counts.old) at }
     ensures { Filled (λ j. get_or n.now (first + j) 0) at counts.old counts.new columns }
 {
+    // stays: of what an adapter of `iter_mut` passes on, a proof knows no value
     for j in 0..columns {
         counts[at + j] = n[first + j] as u16;
     }
@@ -18,6 +19,7 @@ pub fn write_cells(n: &[u64; 169], rows: usize, columns: usize, counts: &mut [u1
     requires { Ready n.now rows columns (length counts.old) at }
     ensures { Filled (grid_cell n.now columns) at counts.old counts.new (rows * columns) }
 {
+    // stays: a row stands where its number says
     for i in 0..rows {
         write_row(n, i * 13, columns, counts, at + i * columns);
     }

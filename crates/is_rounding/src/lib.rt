@@ -102,6 +102,7 @@ impl EntryBounds {
         ensures { BoundsFrom denominator (λ l. total cells.now (line_places k l)) from
             self.old.low self.old.high self.new.low self.new.high k.count }
     {
+        // stays: an entry is found by its number, in the cells and in both bounds
         for l in 0..k.count {
             let entry = sum(cells, l * k.stride, k.step, k.number);
             let parts = divide(entry, denominator);
@@ -145,6 +146,7 @@ fn count_sum(counts: &[u16], start: usize, step: usize, number: usize) -> u32
     ensures { result ≡ total counts.now (places start step number) }
 {
     let mut s: u32 = 0;
+    // stays: the places are a step apart
     for k in 0..number {
         s += u32::from(counts[start + k * step]);
     }

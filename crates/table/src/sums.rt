@@ -10,6 +10,7 @@ pub fn sum(cells: &[u32], start: usize, step: usize, count: usize) -> u64
     ensures { result ≡ total cells.now (places start step count) }
 {
     let mut s: u64 = 0;
+    // stays: the places are a step apart
     for k in 0..count {
         s += u64::from(cells[start + k * step]);
     }
