@@ -166,7 +166,9 @@ pub fn is_rounding(t: &Accepted, counts: &[u16]) -> bool
 {
     let s = t.sizes;
     counts.len() == t.cells.len()
-        && EntryBounds::of(t.cells, s.rows, s.columns, s.denominator).hold(counts, s.rows, s.columns)
+        && EntryBounds::of(t.cells, s.rows, s.columns, s.denominator).hold(
+            counts, s.rows, s.columns,
+        )
 }
 
 // The literal cases are as stated: arrays that are controlled roundings, and for each entry one that breaks it alone.
