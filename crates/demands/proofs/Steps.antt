@@ -21,8 +21,8 @@ use Rattle.table.proofs.Totals.{total_one}
 use Rattle.refusals.specs.declared.Refusal.{Refusal}
 use Rattle.weighted_arrays.specs.Plan.{Plan, cell_count, array_for}
 use Rattle.opening.proofs.Sound.{Sound}
-use Rattle.records.specs.Record.{CampaignRecord, record_of, max_rounds, spare_clear, taken_sum, within, fits, room_for}
-use Rattle.bits.specs.Bits.{bit_of, bit_bytes}
+use Rattle.records.specs.Record.{CampaignRecord, record_of, max_rounds, taken_sum, within, fits, room_for}
+use Rattle.bits.specs.Bits.{bit_of, bit_bytes, spare_clear}
 use Rattle.campaign_start.specs.Start.{cleared}
 use Rattle.campaign_draw.specs.Draw.{taking, closed, Made}
 use Rattle.bits.proofs.Bits.{bit_set, bit_clear}

@@ -1,5 +1,5 @@
 -- The walk of every accepted table of up to four by four ends, and holds each controlled rounding once, in rising order, and none besides. Assumes nothing.
-use Rattle.std.specs.Prelude.{Option, Some, None}
+use Rattle.std.specs.Prelude.{Option, Some, None, Result, Ok}
 use mathlib.Core.Path.{◌≡◌, refl, sym, ap₂, ◌∙◌}
 use mathlib.Core.Logic.{⊎_elim}
 use mathlib.Core.Bool.{true}
@@ -16,6 +16,7 @@ use lib.Pow.{pow_pos}
 use Rattle.base.specs.Lists.{tabulate}
 use Rattle.base.proofs.Lists.{get_d_tabulate}
 use Rattle.base.proofs.Buffers.{written_front}
+use Rattle.refusals.specs.declared.Refusal.{Refusal}
 use Rattle.refusals.specs.Due.{answer_of, after}
 use Rattle.table.specs.Whole.{down}
 use Rattle.table.specs.Check.{table_refusal}
@@ -167,8 +168,8 @@ module _ (r c d : ℕ) (g : List ℕ) (h : table_refusal r c d g ≡ None) (hr :
   unfolding buffer
   room = omega (arith, length-replicate {A = ℕ} (r * c) 0)
 
-  different : {a : Step} → a ≡ Next → a ≡ Last → ⊥
-  different p q = let z : ◌≡◌ {A = ℕ} 0 1 = cc in omega arith
+  different : {a : Result Step Refusal} → a ≡ Ok Next → a ≡ Ok Last → ⊥
+  different p q = cc
 
   same_onward : (n : List ℕ) (l m : List (List ℕ)) → Onward r c d g n l → Onward r c d g n m → l ≡ m
   same_onward n [] [] p q = refl
