@@ -1,7 +1,7 @@
 -- What is printed of a table's plan, and of the numbers of a text. Assumes nothing.
 use Rattle.std.specs.Prelude.{Option, Some, None, Result, Ok, Err}
 use mathlib.Core.Path.{◌≡◌, refl, sym, ap, ◌∙◌}
-use mathlib.Core.Bool.{true, false}
+use mathlib.Core.Bool.{true}
 use mathlib.Core.List.{List, ◌++◌}
 use Prim.Native.Nat.{ℕ, ◌-◌, ◌≤◌}
 use native.Mathlib.Omega.{arith}
@@ -19,8 +19,8 @@ use Rattle.plan.proofs.Planning.{promised}
 use Rattle.table.proofs.Checks.{passed_all}
 use Rattle.printing.specs.Lines.{refused}
 use Rattle.printing.specs.Write.{Wrote}
-use Rattle.parsing.specs.declared.Parsed.{Parsed}
-use Rattle.parsing.specs.Clauses.{parsed_of}
+use Rattle.parsing.specs.declared.Numbers.{Numbers}
+use Rattle.parsing.specs.Clauses.{padded, parsed_of}
 use Rattle.parsing.specs.Text.{parse}
 use Rattle.plan_text.specs.Text.{listing, refused_text, table_output, printed, output}
 use Rattle.parsing.proofs.Answers.{accepted_count, padded_at, padded_part}
@@ -82,35 +82,37 @@ pub listing_printed : {n : ℕ} {new s : List ℕ} → Listed n new s → (out a
 listing_printed l out after end w = rw l.lists at w
 
 -- the numbers of an accepted text, as its answer holds them
-pub record Numbers (p : Parsed) (s : List ℕ) : Type 0 where
+pub record Held (p : Numbers) (s : List ℕ) : Type 0 where
   pub enough : 3 ≤ p.count
   pub inside : p.count ≤ length p.numbers
   pub prints : table_output (get_or p.numbers 0 0) (get_or p.numbers 1 0) (get_or p.numbers 2 0) (take (p.count - 3) (drop 3 p.numbers)) ≡ output s
 
-module _ (s : List ℕ) (p : Parsed) (e : p ≡ parsed_of (parse s)) where
-  refused_one : (o : Option (List ℕ)) → p ≡ parsed_of o → p.accepted ≡ false → refused_text ≡ printed o
+module _ (s : List ℕ) {r : Option Numbers} (e : r ≡ parsed_of (parse s)) where
+  refused_one : (o : Option (List ℕ)) → r ≡ parsed_of o → r ≡ None → refused_text ≡ printed o
   refused_one None q h = refl
-  refused_one (Some n) q h = let x : true ≡ false = sym (ap (λ (y : Parsed). y.accepted) q) ∙ h in let o : ◌≡◌ {A = ℕ} 0 1 = cc in absurd (omega arith)
+  refused_one (Some n) q h = let o : ◌≡◌ {A = ℕ} 0 1 = cc in absurd (omega arith)
 
-  pub text_refused : p.accepted ≡ false → (out after : List ℕ) (end : ℕ) → Wrote out 0 refused_text after end → Wrote out 0 (output s) after end
+  pub text_refused : r ≡ None → {out after : List ℕ} {end : ℕ} → Wrote out 0 refused_text after end → Wrote out 0 (output s) after end
   unfolding output
-  text_refused h out after end w = rw (refused_one (parse s) e h) at w
+  text_refused h w = rw (refused_one (parse s) e h) at w
 
-  numbers_of : (o : Option (List ℕ)) → parse s ≡ o → p ≡ parsed_of o → p.accepted ≡ true → Numbers p s
-  unfolding output
-  numbers_of None a q h = let x : false ≡ true = sym (ap (λ (y : Parsed). y.accepted) q) ∙ h in let o : ◌≡◌ {A = ℕ} 0 1 = cc in absurd (omega arith)
-  numbers_of (Some n) a q h =
-      let k = accepted_count s n a in
-      rw q (record {
-        enough = k.0;
-        inside = omega (arith, length-append n (replicate (2048 - length n) 0));
-        prints = simp (padded_at n 0 (omega arith), padded_at n 1 (omega arith), padded_at n 2 (omega arith), padded_part n 3 k.0, a);
-      })
+  module _ {p : Numbers} (h : r ≡ Some p) where
+    held_by : (o : Option (List ℕ)) → parse s ≡ o → r ≡ parsed_of o → Held p s
+    unfolding output
+    held_by None a q = let o : ◌≡◌ {A = ℕ} 0 1 = cc in absurd (omega arith)
+    held_by (Some n) a q =
+        let k = accepted_count s n a in
+        let is : p ≡ record { count = length n; numbers = padded n } = cc in
+        rw is (record {
+          enough = k.0;
+          inside = omega (arith, length-append n (replicate (2048 - length n) 0));
+          prints = simp (padded_at n 0 (omega arith), padded_at n 1 (omega arith), padded_at n 2 (omega arith), padded_part n 3 k.0, a);
+        })
 
-  pub numbers_accepted : p.accepted ≡ true → Numbers p s
-  numbers_accepted h = numbers_of (parse s) refl e h
+    pub numbers_held : Held p s
+    numbers_held = held_by (parse s) refl e
 
-pub table_printed : {p : Parsed} {s : List ℕ} → Numbers p s → (out after : List ℕ) (end : ℕ)
+pub table_printed : {p : Numbers} {s : List ℕ} → Held p s → {out after : List ℕ} {end : ℕ}
     → Wrote out 0 (table_output (get_or p.numbers 0 0) (get_or p.numbers 1 0) (get_or p.numbers 2 0) (take (p.count - 3) (drop 3 p.numbers))) after end
     → Wrote out 0 (output s) after end
-table_printed l out after end w = rw l.prints at w
+table_printed l w = rw l.prints at w

@@ -15,8 +15,7 @@ fn output_table(rows: u32, columns: u32, denominator: u32, cells: &[u32], out: &
     ensures { Wrote out.old 0 (table_output rows columns denominator cells.now) out.new result }
 {
     let mut buffer = [0u8; MAX_LENGTH];
-    let planned = plan(rows, columns, denominator, cells, &mut buffer);
-    match planned {
+    match plan(rows, columns, denominator, cells, &mut buffer) {
         Err(x) => print_refusal(x, out, 0),
         Ok(n) => print_plan_bytes(&buffer[..n as usize], out, 0),
     }
@@ -27,8 +26,9 @@ pub fn output(input: &[u8], out: &mut [u8]) -> usize
     requires { max_listing ≤ length out.old }
     ensures { Wrote out.old 0 (output input.now) out.new result }
 {
-    let Some(n) = parse(input) else {
+    let Some(parsed) = parse(input) else {
         return print_text_refusal(out, 0);
     };
-    output_table(n.numbers[0], n.numbers[1], n.numbers[2], &n.numbers[3..n.count], out)
+    let n = &parsed.numbers;
+    output_table(n[0], n[1], n[2], &n[3..parsed.count], out)
 }

@@ -1,24 +1,17 @@
-use native.Mathlib.Omega.{arith}
-use Rattle.printing.proofs.Writes.{writing_room, writing_more}
-use Rattle.plan_text.proofs.Lines.{plan_long, lines_few, lines_fit, lines_are, lines_none}
-use borrow.Author.Rules.{rules}
+use Rattle.plan_text.proofs.Lines.{head_room, head_wrote, line_room, line_wrote, listing_wrote}
 use Rattle.plan_text.proofs.print.print_lines.Goals as goal
 
-pub sizes-s-requires : goal.sizes-s-requires
-sizes-s-requires c = search (rules, plan_long)
-
-pub overflow_add-n : goal.overflow_add-n
-overflow_add-n c = lines_fit _ c.requires.laid_out_is c.sizes-s.ensures
+pub print_head-end-requires : goal.print_head-end-requires
+print_head-end-requires c = head_room c.args.plan.now.laid_out c.requires
 
 pub loop-k-init : goal.loop-k-init
-loop-k-init c =
-    let laid = c.requires.laid_out_is in
-    (omega (arith, lines_are _ laid c.sizes-s.ensures), lines_few _ laid c.sizes-s.ensures, lines_none _ laid c.sizes-s.ensures c.requires.room)
+loop-k-init c = head_wrote c.args.plan.now.laid_out c.requires c.print_head-end.ensures
 
-pub print_line-end-requires : goal.print_line-end-requires
-print_line-end-requires c =
-    let loop = c.loop-k.invariant in
-    record { has = record { laid_out_is = c.requires.laid_out_is; there = omega (arith, loop.0, c.loop-k-test.true) }; room = writing_room loop.2 c.loop-k-test.true }
+pub print_array-end-requires-clause-room : goal.print_array-end-requires-clause-room
+print_array-end-requires-clause-room c = line_room c.args.plan.now.laid_out c.loop-k.invariant c.loop-k-test.true
 
 pub loop-k-preserved : goal.loop-k-preserved
-loop-k-preserved c = search (rules, writing_more)
+loop-k-preserved c = line_wrote c.args.plan.now.laid_out c.loop-k.invariant c.loop-k-test.true c.print_array-end.ensures
+
+pub returns : goal.returns
+returns c = listing_wrote c.args.plan.now.laid_out c.loop-k.invariant c.loop-k-test.false
