@@ -1,7 +1,7 @@
 -- What the loop over the rounds keeps. Assumes nothing.
 use mathlib.Core.Path.{◌≡◌, sym, ap, ◌∙◌}
 use mathlib.Core.List.{List, [], ◌∷◌, ◌++◌}
-use Prim.Native.Nat.{ℕ, ◌+◌, ◌-◌, ◌*◌, ◌≤◌, ◌<◌}
+use Prim.Native.Nat.{ℕ, ◌+◌, ◌*◌, ◌≤◌, ◌<◌}
 use native.Mathlib.Decide.{dec_lt}
 use native.Mathlib.Nat.{mul-le-mul, suc-mul}
 use native.Mathlib.Omega.{arith}
@@ -9,7 +9,7 @@ use lib.Arith.{digits_lt}
 use lib.ListN.{length, get_or, set, length-set, get_or-append}
 use lib.Seq.{get_or-append_seam}
 use mir.Val.{Fits}
-use mir.Syntax.{w32, w64}
+use mir.Syntax.{w64}
 use Rattle.table.specs.Table.{max_arrays}
 use Rattle.grid.specs.Clauses.{grid_of, grid_cell, Ready}
 use Rattle.table.specs.Clauses.{IsTable}
@@ -22,7 +22,7 @@ use Rattle.first_rounding.proofs.Small.{rounding_ready}
 use Rattle.weighted_arrays.specs.Plan.{Weighted, array_at}
 use Rattle.planning.specs.Clauses.{RoundDone}
 use Rattle.planning.proofs.Progressing.{next_weighted, next_array}
-use Rattle.planning.proofs.Reaching.{reached_start, weight_left, few_before, rounds_table_lem, array_shape, weight_is, array_is, weight_most, reached_step}
+use Rattle.planning.proofs.Reaching.{reached_start, few_before, rounds_table_lem, array_shape, weight_is, array_is, reached_step}
 use Rattle.plan.specs.Clauses.{max_counts, Gathered}
 
 pub gathered_start : {r c d : ℕ} {g : List ℕ} (e weights counts : List ℕ) → IsTable r c d g → length weights ≡ max_arrays → length counts ≡ max_counts → e ≡ grid_of r c g
@@ -55,9 +55,6 @@ module _ {r c d : ℕ} {g : List ℕ} {w k : ℕ} {e weights counts : List ℕ} 
   start_fits = record { fits = omega (arith, ends) }
 
   module _ {a : List ℕ} {x : ℕ} {e' : List ℕ} (u : RoundDone w e a x e') where
-    pub weight_fits : Fits w32 x
-    weight_fits = record { fits = omega (arith, weight_most o.reached wp u, weight_left o.reached) }
-
     pub array_ready : Ready a r c (length counts) (k * (r * c))
     array_ready = rounding_ready o.reached.table _ (rounds_table_lem o.reached wp) (array_is o.reached wp u) (omega (arith, ends, o.counts_len))
 
@@ -94,10 +91,10 @@ module _ {r c d : ℕ} {g : List ℕ} {w k : ℕ} {e weights counts : List ℕ} 
               let q : i ≡ k = omega arith in
               rw q (f.inside j l ∙ count_is j l ∙ ap (λ (y : Weighted). get_or y.counts j 0) (sym at_new))
 
-      pub gathered_step : Gathered r c d g (w - x) (k + 1) e' (set weights k x) counts'
+      pub gathered_step : {v : ℕ} → v + x ≡ w → Gathered r c d g v (k + 1) e' (set weights k x) counts'
       unfolding reached_step
-      gathered_step = record {
-        reached = reached_step o.reached wp u;
+      gathered_step left = record {
+        reached = reached_step o.reached wp u left;
         weights_len = length-set weights k x ∙ o.weights_len;
         counts_len = f.len ∙ o.counts_len;
         weight_at_is = weights';

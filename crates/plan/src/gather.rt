@@ -1,9 +1,8 @@
 // All rounds of the plan of an accepted table.
 ghost use Rattle.plan.specs.Clauses.{RoundsReady, AllGathered};
 
-use grid::entries;
 use grid::write::write_cells;
-use planning::round::one_round;
+use planning::round::Remaining;
 use table::check::Accepted;
 
 // The rounds until no weight is left: each array's weight and counts, one after another, and how many there are.
@@ -12,16 +11,14 @@ pub fn gather(t: &Accepted, weights: &mut [u32], counts: &mut [u16]) -> usize
     ensures { AllGathered t.now.sizes.rows t.now.sizes.columns t.now.sizes.denominator t.now.cells.now result weights.new counts.new }
 {
     let s = t.sizes;
-    let mut e = entries(s, t.cells);
-    let mut w = s.denominator;
+    let mut left = Remaining::of(t);
     let mut k = 0;
     // stays: the rounds end where no weight is left; a `for` over the places for weights would return inside the loop and after it, which is no plainer
-    while w > 0 {
+    while left.weight > 0 {
         let mut n = [0u64; 169];
-        let x = one_round(&mut e, w, &mut n);
+        let x = left.one_round(&mut n);
         weights[k] = x as u32;
         write_cells(&n, s.rows, s.columns, counts, k * (s.rows * s.columns));
-        w -= x;
         k += 1;
     }
     k

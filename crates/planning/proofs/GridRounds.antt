@@ -3,9 +3,10 @@ use mathlib.Core.Path.{◌≡◌, sym, ap, ap₂, ◌∙◌}
 use mathlib.Core.Bool.{true}
 use mathlib.Core.List.{List, []}
 use Prim.Native.Nat.{ℕ, ◌+◌, ◌*◌, ◌/◌, ◌%◌, ◌≤◌, ◌<◌}
+use native.Mathlib.Decide.{dec_lt}
 use native.Mathlib.Nat.{zero-div}
 use native.Mathlib.Omega.{arith}
-use lib.ListN.{length, get_or}
+use lib.ListN.{length, get_or, get_or-eq_default}
 use lib.Seq.{ext_get_or}
 use lib.Dec.{leb}
 use borrow.Author.Tests.{le-leb, leb-true}
@@ -15,17 +16,19 @@ use Rattle.base.proofs.Listing.{listed_at}
 use Rattle.table.specs.Table.{total, entry_places, max_denominator}
 use Rattle.grid.specs.Clauses.{grid_places, grid_at, grid_of}
 use Rattle.table.specs.Whole.{rounds_to}
-use Rattle.table.specs.Clauses.{Shape}
+use Rattle.table.specs.Clauses.{Shape, IsTable, max_entry}
 use Rattle.table.proofs.Totals.{total_none}
 use Rattle.grid.proofs.GridPlaces.{grid_at_lem, grid_entry, length_grid}
 use Rattle.grid.proofs.GridTests.{grid_entries, grid_each}
+use Rattle.grid.proofs.GridBounds.{grid_small}
+use Rattle.grid.proofs.CellWrites.{cells_of_grid}
 use Rattle.first_rounding.specs.First.{IsFirst, first_rounding}
 use Rattle.first_rounding.specs.Clauses.{IsGrid, RoundedGrid}
 use Rattle.first_rounding.proofs.Roundings.{rounding_grid}
 use Rattle.first_rounding.proofs.Existence.{first_exists}
 use Rattle.planning.specs.Rounds.{limit_of, weight_of, without}
-use Rattle.planning.specs.Clauses.{Rounded, limit_at, Smallest, Bears, Lost, NextArray, RoundDone}
-use Rattle.planning.proofs.OneRound.{attains, weight_most, weight_high, rest, rest_total}
+use Rattle.planning.specs.Clauses.{Rounded, limit_at, Smallest, Bears, Lost, cells_in, HoldsTable, NextArray, RoundDone}
+use Rattle.planning.proofs.OneRound.{attains, weight_most, weight_high, rest, rest_shape, rest_total}
 use Rattle.planning.proofs.GridMembers.{cell_in_lem, row_in, column_in, grand_in}
 
 module _ {w : ℕ} (wp : 0 < w) {e n : List ℕ} (o : RoundedGrid w e n) (r c : ℕ) (g : List ℕ) (s : Shape r c g) (is : e ≡ grid_of r c g) where
@@ -117,3 +120,36 @@ module _ {w : ℕ} (wp : 0 < w) {e n : List ℕ} (i : IsGrid e) where
 
 pub grid_length : {e : List ℕ} → IsGrid e → length e ≡ 169
 grid_length i = ap length i.is ∙ length_grid i.rows i.columns i.cells
+
+-- a grid that has the entries of a table of r by c cells
+pub is_grid : {r c : ℕ} {e : List ℕ} → HoldsTable r c e → IsGrid e
+is_grid {r} {c} {e} h = record { rows = r; columns = c; cells = cells_in r c e; shape = h.shape; is = h.grid; small = h.small }
+
+module _ {r c : ℕ} {e g : List ℕ} (s : Shape r c g) (is : e ≡ grid_of r c g) where
+  cells_are : cells_in r c e ≡ g
+  cells_are = ap (cells_in r c) is ∙ cells_of_grid s
+
+  pub holds_table : ((k : ℕ) → get_or e k 0 ≤ max_entry) → HoldsTable r c e
+  holds_table h = record { shape = rw cells_are s; grid = is ∙ ap (grid_of r c) (sym cells_are); small = h }
+
+pub table_held : {r c d : ℕ} {e g : List ℕ} → IsTable r c d g → e ≡ grid_of r c g → HoldsTable r c e
+table_held t is = holds_table t.shape is (rw is (grid_small t))
+
+-- a round of it
+module _ {r c : ℕ} {w : ℕ} (wp : 0 < w) {e n : List ℕ} (h : HoldsTable r c e) {l : List ℕ} {x : ℕ} (o : NextArray w e n l x) where
+  weight_same : x ≡ weight_of r c w (cells_in r c e) (first_rounding r c w (cells_in r c e))
+  weight_same = o.weight r c (cells_in r c e) h.shape h.grid
+
+  pub weight_within : x ≤ w
+  weight_within = omega (arith, weight_same, weight_high h.shape w wp _ (first_exists h.shape wp).rounding)
+
+  pub rest_held : {e' : List ℕ} → Lost x e n e' → HoldsTable r c e'
+  unfolding rest
+  rest_held {e'} z = holds_table shape (left_is wp o r c (cells_in r c e) h.shape h.grid z) (λ k. small k (dec_lt k 169))
+    where
+      shape : Shape r c (without x (first_rounding r c w (cells_in r c e)) (cells_in r c e))
+      shape = rw weight_same (rest_shape h.shape w wp _ (first_exists h.shape wp).rounding)
+
+      small : (k : ℕ) → Dec (k < 169) → get_or e' k 0 ≤ max_entry
+      small k (yes p) = omega (arith, z.is k p, h.small k)
+      small k (no p) = omega (arith, get_or-eq_default e' 0 {n = k} (omega (arith, z.len)))

@@ -2,13 +2,13 @@
 use Rattle.std.specs.Prelude.{◌≡◌, true, ℕ, ◌-◌, ◌*◌, ◌≤◌, ◌<◌, ◌+◌, length, get_or, leb}
 use mathlib.Core.List.{List, ◌++◌, map, Memᴰ as Member}
 use Rattle.base.specs.Lists.{tabulate, sum, all}
-use Rattle.grid.specs.Clauses.{grid_of}
+use Rattle.grid.specs.Clauses.{grid_of, grid_cell}
 use Rattle.table.specs.Table.{max_denominator, total, entry_places}
 use Rattle.table.specs.Whole.{down, rounds_to, up}
 use Rattle.table.specs.Clauses.{Shape, IsTable, max_entry}
 use Rattle.first_rounding.specs.First.{first_rounding}
 use Rattle.is_rounding.specs.Rounding.{two_ways, is_rounding}
-use Rattle.first_rounding.specs.Clauses.{rounded_down, IsGrid}
+use Rattle.first_rounding.specs.Clauses.{rounded_down}
 use Rattle.weighted_arrays.specs.Plan.{Weighted}
 use Rattle.planning.specs.Rounds.{limit_of, weight_of, without, Round, rounds_from, plan_rounds, arrays_in, AreRounds, not_whole}
 
@@ -79,26 +79,21 @@ pub record Lost (x : ℕ) (e n e' : List ℕ) : Type 0 where
   pub len : length e' ≡ 169
   pub is : (k : ℕ) → k < 169 → get_or e' k 0 ≡ get_or e k 0 - x * get_or n k 0
 
--- what the next array of a remaining table needs: entries, a weight that is left, and room for counts and limits
-pub record NextReady (w : ℕ) (e n l : List ℕ) : Type 0 where
-  pub grid : IsGrid e
-  pub some : 0 < w
-  pub small : w ≤ max_denominator
-  pub counts_room : length n ≡ 169
-  pub limits_room : length l ≡ 169
+-- the cells of a table of r by c cells that is held as a grid
+abbrev pub cells_in : ℕ → ℕ → List ℕ → List ℕ
+cells_in r c e = tabulate (r * c) (grid_cell e c)
+
+-- e has the entries of a table of r by c cells, small enough that all sums fit
+pub record HoldsTable (r c : ℕ) (e : List ℕ) : Type 0 where
+  pub shape : Shape r c (cells_in r c e)
+  pub grid : e ≡ grid_of r c (cells_in r c e)
+  pub small : (k : ℕ) → get_or e k 0 ≤ max_entry
 
 -- the next array: for the table that has the entries e, n has the array's, x is its weight, and l has the limit of each entry
 pub record NextArray (w : ℕ) (e n l : List ℕ) (x : ℕ) : Type 0 where
   pub array : (r c : ℕ) (g : List ℕ) → Shape r c g → e ≡ grid_of r c g → n ≡ grid_of r c (first_rounding r c w g)
   pub limits : l ≡ tabulate 169 (limit_at w e n)
   pub weight : (r c : ℕ) (g : List ℕ) → Shape r c g → e ≡ grid_of r c g → x ≡ weight_of r c w g (first_rounding r c w g)
-
--- what a round needs: entries, a weight that is left, and room for counts
-pub record RoundReady (w : ℕ) (e n : List ℕ) : Type 0 where
-  pub grid : IsGrid e
-  pub some : 0 < w
-  pub small : w ≤ max_denominator
-  pub len : length n ≡ 169
 
 -- one round: n and x are the next array and its weight, and e' has the entries of what is left
 pub record RoundDone (w : ℕ) (e n : List ℕ) (x : ℕ) (e' : List ℕ) : Type 0 where

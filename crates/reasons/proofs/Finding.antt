@@ -16,13 +16,12 @@ use Rattle.table.proofs.Checks.{too_small, inside, too_large}
 use Rattle.table.proofs.Tables.{table_accepted}
 use Rattle.grid.specs.Clauses.{grid_of}
 use Rattle.planning.specs.Rounds.{Round, round_on, plan_rounds, plan_of}
-use Rattle.planning.specs.Clauses.{RoundReady, RoundDone, Reached}
+use Rattle.planning.specs.Clauses.{RoundDone, Reached}
 use Rattle.planning.proofs.Progressing.{round_is, more_rounds, all_rounds}
-use Rattle.planning.proofs.Reaching.{reached_start, reached_step, entries_left, weight_left, weight_most as reached-most}
+use Rattle.planning.proofs.Reaching.{reached_start, reached_step}
 use Rattle.reasons.specs.declared.Explanation.{Explanation}
 use Rattle.reasons.specs.Reason.{reason_of}
 use Rattle.reasons.specs.Call.{round_at, reason_refusal, reason_answer}
-use Rattle.reasons.specs.Clauses.{Remains}
 
 -- as many arrays as rounds
 pub arrays_are_rounds : (r c d : ℕ) (g : List ℕ) → length (plan_of r c d g).arrays ≡ length (plan_rounds r c d g)
@@ -70,19 +69,6 @@ module _ {r c d : ℕ} {g : List ℕ} {array w k : ℕ} {e : List ℕ} (o : Pass
     wp : 0 < w
     wp = omega arith
 
-    pub remains : Remains r c w e
-    remains = record {
-      table = o.reached.rest;
-      shape = o.reached.progress.shape;
-      grid = o.reached.grid;
-      small = (entries_left o.reached).small;
-      some = wp;
-      most = weight_left o.reached;
-    }
-
-    pub round_ready : (n : List ℕ) → length n ≡ 169 → RoundReady w e n
-    round_ready n h = record { grid = entries_left o.reached; some = wp; small = weight_left o.reached; len = h }
-
     -- the array's own round
     pub own_round : k ≡ array → {x : Explanation} → ((y : List ℕ) → Shape r c y → e ≡ grid_of r c y → x ≡ reason_of r c (round_on r c w y))
         → Ok x ≡ reason_answer r c d g array
@@ -97,11 +83,8 @@ module _ {r c d : ℕ} {g : List ℕ} {array w k : ℕ} {e : List ℕ} (o : Pass
         ∙ sym (ap (refused_or Err (Ok (reason_of r c (round_at r c d g array)))) free)
 
     module _ {a : List ℕ} {x : ℕ} {e' : List ℕ} (u : RoundDone w e a x e') where
-      pub weight_most : x ≤ w
-      weight_most = reached-most o.reached wp u
-
-      pub passed_step : (k ≡ array → ⊥) → k ≤ array → Passed r c d g array (w - x) (k + 1) e'
-      passed_step n h = record { done = o.done + 1; next = omega (arith, o.next); reached = reached_step o.reached wp u; not_yet = λ p. omega arith }
+      pub passed_step : {v : ℕ} → v + x ≡ w → (k ≡ array → ⊥) → k ≤ array → Passed r c d g array v (k + 1) e'
+      passed_step left n h = record { done = o.done + 1; next = omega (arith, o.next); reached = reached_step o.reached wp u left; not_yet = λ p. omega arith }
 
   refused : up_to (length (plan_rounds r c d g)) array ≡ false → Err Array ≡ reason_answer r c d g array
   unfolding reason_answer

@@ -16,13 +16,13 @@ use Rattle.grid.specs.Clauses.{grid_at, grid_of, grid_order}
 use Rattle.grid.proofs.GridPlaces.{grid_entry}
 use Rattle.first_rounding.specs.First.{first_rounding}
 use Rattle.planning.specs.Rounds.{limit_of, round_on}
-use Rattle.planning.specs.Clauses.{limit_at, NextArray}
+use Rattle.planning.specs.Clauses.{limit_at, HoldsTable, NextArray}
 use Rattle.reasons.specs.declared.Entry.{Entry}
 use Rattle.reasons.specs.declared.Entry.TheVariants.{GrandTotal}
 use Rattle.reasons.specs.declared.Direction.{Direction}
 use Rattle.reasons.specs.Reason.{expected_in, count_in, sets, set_by, reason, reason_of}
 use Rattle.limit_search.specs.Clauses.{holds}
-use Rattle.reasons.specs.Clauses.{entry_at, directed, Remains}
+use Rattle.reasons.specs.Clauses.{entry_at, directed}
 use Rattle.reasons.proofs.Naming.{Stands, stands_grand, order_stands, order_names}
 use Rattle.reasons.proofs.Wholes.{all_whole_is}
 
@@ -68,10 +68,9 @@ module _ {r c w : ℕ} {e n l : List ℕ} {x : ℕ} (o : NextArray w e n l x) (w
   reason_told {k} f i h = ap₂ reason i h ∙ reason_is f
 
 -- the search on a remaining table
-module _ {r c w : ℕ} {e : List ℕ} (m : Remains r c w e) where
-  module _ (l : List ℕ) (x : ℕ) {k : ℕ} (f : k ≡ first_that (holds l x) (grid_order r c) 168) where
-    pub place_small : k < 169
-    place_small = omega (arith, f, (found_stands m.shape l x).small)
+module _ {r c : ℕ} {e : List ℕ} (h : HoldsTable r c e) (l : List ℕ) (x : ℕ) {k : ℕ} (f : k ≡ first_that (holds l x) (grid_order r c) 168) where
+  pub place_small : k < 169
+  place_small = omega (arith, f, (found_stands h.shape l x).small)
 
-    pub place_scaled : Fits w64 (k * 8)
-    place_scaled = record { fits = omega (arith, place_small) }
+  pub place_scaled : Fits w64 (k * 8)
+  place_scaled = record { fits = omega (arith, place_small) }

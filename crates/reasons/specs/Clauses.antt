@@ -1,9 +1,6 @@
 -- What the functions inside require and promise, on grids. Assumes nothing.
-use Rattle.std.specs.Prelude.{◌≡◌, cond, List, ℕ, ◌+◌, ◌/◌, ◌%◌, ◌<◌, ◌≤◌, get_or, eqb, ltb}
-use Rattle.table.specs.Table.{max_denominator}
+use Rattle.std.specs.Prelude.{cond, ℕ, ◌+◌, ◌/◌, ◌%◌, eqb, ltb}
 use Rattle.table.specs.Whole.{down}
-use Rattle.table.specs.Clauses.{Shape, max_entry}
-use Rattle.grid.specs.Clauses.{grid_of}
 use Rattle.reasons.specs.declared.Entry.{Entry}
 use Rattle.reasons.specs.declared.Entry.TheVariants.{Cell, RowTotal, ColumnTotal, GrandTotal}
 use Rattle.reasons.specs.declared.Direction.{Direction}
@@ -19,12 +16,3 @@ entry_at k =
 -- how an entry e over w with the count n was rounded, where the weight is x
 abbrev pub directed : ℕ → ℕ → ℕ → ℕ → Direction
 directed w x e n = cond (eqb x w) AllWhole (cond (eqb n (down w e)) Down Up)
-
--- e has the entries of a remaining table of r by c cells over w
-pub record Remains (r c w : ℕ) (e : List ℕ) : Type 0 where
-  pub table : List ℕ
-  pub shape : Shape r c table
-  pub grid : e ≡ grid_of r c table
-  pub small : (k : ℕ) → get_or e k 0 ≤ max_entry
-  pub some : 0 < w
-  pub most : w ≤ max_denominator

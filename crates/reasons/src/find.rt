@@ -5,12 +5,11 @@ ghost use Rattle.grid.specs.Clauses.{grid_of};
 ghost use Rattle.planning.specs.Rounds.{round_on};
 ghost use Rattle.reasons.specs.Reason.{reason_of};
 ghost use Rattle.reasons.specs.Call.{reason_answer};
-ghost use Rattle.reasons.specs.Clauses.{entry_at, directed, Remains};
+ghost use Rattle.reasons.specs.Clauses.{entry_at, directed};
 
 use crate::{Direction, Entry, Explanation};
-use grid::entries;
 use limit_search::first_place;
-use planning::round::{next_array, one_round};
+use planning::round::Remaining;
 use refusals::Refusal;
 use table::check::Accepted;
 use table::whole::divide;
@@ -44,18 +43,19 @@ fn direction(w: u64, x: u64, entry: u64, count: u64) -> Direction
     }
 }
 
-// The reason of the next array of a remaining table with entries e over w.
-fn reason_of(e: &[u64; 169], w: u64, rows: usize, columns: usize) -> Explanation
-    requires { Remains rows columns w e.now }
-    ensures { (g : List ℕ) → Shape rows columns g → e.now ≡ grid_of rows columns g → result ≡ reason_of rows columns (round_on rows columns w g) }
+// The reason of the next array of what is left of a table.
+fn reason_of(left: &Remaining) -> Explanation
+    requires { 0 < left.now.weight }
+    ensures { (g : List ℕ) → Shape left.now.rows left.now.columns g → left.now.entries ≡ grid_of left.now.rows left.now.columns g
+        → result ≡ reason_of left.now.rows left.now.columns (round_on left.now.rows left.now.columns left.now.weight g) }
 {
     let mut n = [0u64; 169];
     let mut l = [0u64; 169];
-    let x = next_array(e, w, &mut n, &mut l);
-    let k = first_place(&l, x, rows, columns);
+    let x = left.next_array(&mut n, &mut l);
+    let k = first_place(&l, x, left.rows, left.columns);
     Explanation {
         entry: entry_at(k),
-        direction: direction(w, x, e[k], n[k]),
+        direction: direction(left.weight, x, left.entries[k], n[k]),
     }
 }
 
@@ -63,18 +63,16 @@ fn reason_of(e: &[u64; 169], w: u64, rows: usize, columns: usize) -> Explanation
 pub fn find(t: &Accepted, array: u32) -> Result<Explanation, Refusal>
     ensures { result ≡ reason_answer t.now.sizes.rows t.now.sizes.columns t.now.sizes.denominator t.now.cells.now array }
 {
-    let s = t.sizes;
-    let mut e = entries(s, t.cells);
-    let mut w = s.denominator;
+    let mut left = Remaining::of(t);
     for k in 1..=array {
-        if w == 0 {
+        if left.weight == 0 {
             break;
         }
         if k == array {
-            return Ok(reason_of(&e, w, s.rows, s.columns));
+            return Ok(reason_of(&left));
         }
         let mut n = [0u64; 169];
-        w -= one_round(&mut e, w, &mut n);
+        left.one_round(&mut n);
     }
     Err(Refusal::Array)
 }

@@ -1,47 +1,41 @@
-use mathlib.Core.Path.{◌≡◌, refl}
+use mathlib.Core.Path.{◌≡◌}
 use native.Mathlib.Omega.{arith}
-use Rattle.plan.proofs.Gathering.{gathered_start, weight_fits, weights_scaled, weights_room, start_fits, array_ready, array_counted, gathered_step}
-use Rattle.planning.proofs.Reaching.{entries_left, weight_left, weight_most, less_left}
-use borrow.Author.Rules.{rules}
+use Rattle.planning.proofs.Reaching.{less_left}
+use Rattle.plan.proofs.Gathering.{gathered_start, weights_scaled, weights_room, start_fits, array_ready, array_counted, gathered_step}
 use Rattle.plan.proofs.gather.gather.Goals as goal
 
-pub loop-w-init : goal.loop-w-init
-loop-w-init c = search (rules, gathered_start)
-
-pub one_round-x-requires : goal.one_round-x-requires
-one_round-x-requires c =
-    let o = c.loop-w.invariant in
-    record { grid = entries_left o.reached; some = c.loop-w-test.true; small = weight_left o.reached; len = refl }
-
-pub overflow_cast-weights : goal.overflow_cast-weights
-overflow_cast-weights c = search (rules, weight_fits)
+pub loop-left-init : goal.loop-left-init
+loop-left-init c =
+    let made = c.of-left.ensures in
+    rw made.weight (gathered_start _ _ _ c.args.t.now.accepted c.requires.weights_room c.requires.counts_room made.entries)
 
 pub offset_bounds-weights-k : goal.offset_bounds-weights-k
-offset_bounds-weights-k c = search (rules, weights_scaled)
+offset_bounds-weights-k c = weights_scaled c.loop-left.invariant c.loop-left-test.true
 
 pub bounds-weights-k : goal.bounds-weights-k
-bounds-weights-k c = search (rules, weights_room)
+bounds-weights-k c = weights_room c.loop-left.invariant c.loop-left-test.true
 
 pub overflow_mul-k : goal.overflow_mul-k
-overflow_mul-k c = start_fits c.loop-w.invariant c.loop-w-test.true
+overflow_mul-k c = start_fits c.loop-left.invariant c.loop-left-test.true
 
 pub write_cells-requires : goal.write_cells-requires
-write_cells-requires c = search (rules, array_ready)
-
-pub overflow_sub-w : goal.overflow_sub-w
-overflow_sub-w c = search (rules, weight_most)
+write_cells-requires c = array_ready c.loop-left.invariant c.loop-left-test.true c.one_round-x.ensures.round
 
 pub overflow_add-k : goal.overflow_add-k
-overflow_add-k c = search (rules, array_counted)
+overflow_add-k c = array_counted c.loop-left.invariant c.loop-left-test.true
 
-pub loop-w-smaller : goal.loop-w-smaller
-loop-w-smaller c = search (rules, less_left)
+pub loop-left-smaller : goal.loop-left-smaller
+loop-left-smaller c =
+    let u = c.one_round-x.ensures in
+    less_left c.loop-left.invariant.reached c.loop-left-test.true u.round u.weight
 
-pub loop-w-preserved : goal.loop-w-preserved
-loop-w-preserved c = search (rules, gathered_step)
+pub loop-left-preserved : goal.loop-left-preserved
+loop-left-preserved c =
+    let u = c.one_round-x.ensures in
+    gathered_step c.loop-left.invariant c.loop-left-test.true u.round c.write_cells.ensures u.weight
 
 pub returns : goal.returns
 returns c =
-    let l = c.loop-w in
-    let z : l.w ≡ 0 = omega arith in
-    record { e = l.e; rounds = rw z at l.invariant }
+    let l = c.loop-left in
+    let z : l.left.weight ≡ 0 = omega arith in
+    record { e = l.left.entries; rounds = rw z at l.invariant }
