@@ -14,7 +14,7 @@ pub mod print;
 pub const MAX_LINE: usize = 87;
 
 // How many bytes were written of a plan's text, and whether the run goes on after it.
-// stays: (d) of a line and of a refusal the caller needs the number of bytes alike, so that in an enum each variant would hold it
+// stays: of a line and of a refusal the caller needs the number of bytes alike, so that in an enum each variant would hold it
 #[derive(Clone, Copy)]
 pub struct Printed {
     pub written: usize,

@@ -7,14 +7,16 @@ ghost use Rattle.variances.specs.Clauses.{Measured, DenominatorWithin, SumReady,
 use crate::Numerators;
 use covariances::pairs::extremes;
 use opening::open::OpenPlan;
+use table::whole::divide;
 
 // The variance of a cell: f·(D - f), f its remainder by D.
 fn cell_variance(d: u32, g: u32) -> u64
     requires { DenominatorWithin d }
     ensures { Widened 4294967296 (rounding_variance d g) result }
 {
-    let f = g % d;
-    u64::from(f) * u64::from(d - f)
+    let d = u64::from(d);
+    let f = divide(u64::from(g), d).rest;
+    f * (d - f)
 }
 
 // The variances of all cells, added up.
