@@ -7,7 +7,6 @@ use mathlib.Core.List.Memᴰ.{tail as there}
 use mathlib.Core.List.{List, [], ◌∷◌, zip_with, Memᴰ as Member}
 use Prim.Native.Nat.{ℕ, ◌*◌, ◌≤◌}
 use native.Mathlib.Nat.{le_refl}
-use native.Mathlib.Omega.{arith}
 use lib.ListN.{length}
 use lib.Dec.{leb, ltb}
 use borrow.Author.Tests.{leb-true}
@@ -61,12 +60,12 @@ module _ (rank : Refusal → ℕ) where
   in-front t l y e up (there m) = leb-true _ _ (all_at_member (before t) l (above t l up) m)
 
   behind : (t : Test) (l : List Test) (y : Refusal) → t.applies ≡ false → Member (refuse y true) (t ∷ l) → Member (refuse y true) l
-  behind t l y e (here q) = absurd (let z : ◌≡◌ {A = Bool} true false = ap (λ (u : Test). u.applies) q ∙ e in let n : ◌≡◌ {A = ℕ} 0 1 = cc in omega arith)
+  behind t l y e (here q) = absurd (let z : ◌≡◌ {A = Bool} true false = ap (λ (u : Test). u.applies) q ∙ e in cc)
   behind t l y e (there m) = m
 
   lowest : (l : List Test) → rising l ≡ true → (x : Refusal) → due l ≡ Some x → Lowest rank l x
   unfolding due
-  lowest [] up x h = absurd (let z : ◌≡◌ {A = ℕ} 0 1 = cc in omega arith)
+  lowest [] up x h = cc
   lowest (t ∷ l) up x h = go t.applies refl (lowest l (above_rest t l up) x)
     where
       go : (b : Bool) → t.applies ≡ b → (due l ≡ Some x → Lowest rank l x) → Lowest rank (t ∷ l) x

@@ -72,15 +72,15 @@ set_if false = refl
 done_none : (o : Option Refusal) → answer_of o ≡ Ok tt → o ≡ None
 unfolding answer_of
 done_none None e = refl
-done_none (Some x) e = absurd (let z : ◌≡◌ {A = ℕ} 0 1 = cc in omega arith)
+done_none (Some x) e = cc
 
 refused_some : (o : Option Refusal) {x : Refusal} → answer_of o ≡ Err x → o ≡ Some x
 unfolding answer_of
-refused_some None e = absurd (let z : ◌≡◌ {A = ℕ} 0 1 = cc in omega arith)
+refused_some None e = cc
 refused_some (Some y) e = cc
 
 no_draw : {t : Made} {l : List Made} → [] ≡ t ∷ l → ⊥
-no_draw e = let z : ◌≡◌ {A = ℕ} 0 1 = cc in omega arith
+no_draw e = cc
 
 -- the tests that an accepted draw has passed
 record Unrefused (p : Plan) (r : Rounds) (x : Asked) : Type 0 where
