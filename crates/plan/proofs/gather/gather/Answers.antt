@@ -1,5 +1,6 @@
 use mathlib.Core.Path.{◌≡◌}
 use native.Mathlib.Omega.{arith}
+use borrow.Author.Rules.{rules}
 use Rattle.planning.proofs.Reaching.{less_left}
 use Rattle.plan.proofs.Gathering.{gathered_start, weights_scaled, weights_room, start_fits, array_ready, array_counted, gathered_step}
 use Rattle.plan.proofs.gather.gather.Goals as goal
@@ -22,7 +23,7 @@ pub write_cells-requires : goal.write_cells-requires
 write_cells-requires c = array_ready c.loop-left.invariant c.loop-left-test.true c.one_round-x.ensures.round
 
 pub overflow_add-k : goal.overflow_add-k
-overflow_add-k c = array_counted c.loop-left.invariant c.loop-left-test.true
+overflow_add-k c = search (rules, array_counted)
 
 pub loop-left-smaller : goal.loop-left-smaller
 loop-left-smaller c =
