@@ -1,3 +1,4 @@
 pub mod Readings
 pub mod Sizing
 pub mod Scratch
+pub mod Bodies

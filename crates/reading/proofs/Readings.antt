@@ -2,24 +2,19 @@
 use mathlib.Core.Path.{◌≡◌, sym, ap, ◌∙◌}
 use mathlib.Core.Bool.{true}
 use mathlib.Core.List.{List}
-use Prim.Native.Nat.{ℕ, suc, ◌+◌, ◌*◌, ◌-◌, ◌<◌, ◌≤◌}
+use Prim.Native.Nat.{ℕ, suc, ◌+◌, ◌*◌, ◌<◌, ◌≤◌}
 use native.Mathlib.Nat.{mul-le-mul_right, add-mul, one-mul}
 use native.Mathlib.Numerals.{add-one}
 use native.Mathlib.Decide.{dec_lt}
 use native.Mathlib.Omega.{arith}
-use lib.ListN.{length, get_or, take, drop, get_or-eq_default}
-use mir.Val.{Fits}
-use mir.Syntax.{w64}
+use lib.ListN.{length, get_or, get_or-eq_default}
 use Rattle.base.specs.Lists.{tabulate}
-use Rattle.base.specs.Buffers.{written}
-use Rattle.base.proofs.Lists.{length_tabulate, get_d_tabulate, tabulate_ext}
-use Rattle.form.specs.declared.Sizes.{Sizes}
+use Rattle.base.proofs.Lists.{length_tabulate, get_d_tabulate}
 use Rattle.weighted_arrays.specs.Plan.{Weighted, array_at, cell_count}
-use Rattle.form.specs.Form.{body_at, rows_of, columns_of, arrays_of, amount_of, offset_of, sizes_of, cell_of, count_of, laid_out, decode}
-use Rattle.form.specs.Clauses.{Bounded, Laid}
-use Rattle.reading.specs.Clauses.{cell_in, count_in, Body, HasTable, HasArray, HasCounts}
-use Rattle.byte_numbers.proofs.Numbers.{rest, number_drop, number_small, number_four_small, part_room}
-use Rattle.form.proofs.Layouts.{cells_few, cells_fit, laid}
+use Rattle.form.specs.Form.{body_at, rows_of, columns_of, arrays_of, amount_of, offset_of, count_of, laid_out, decode}
+use Rattle.form.specs.Clauses.{Laid}
+use Rattle.byte_numbers.proofs.Numbers.{number_small, number_four_small}
+use Rattle.form.proofs.Layouts.{cells_few, laid}
 
 -- the arrays of the plan that some bytes hold
 module _ (b : List ℕ) where
@@ -85,78 +80,6 @@ module _ {b : List ℕ} (l : Laid b) where
 
   pub contents_room : 16 + 8 * arrays_of b ≤ length b
   contents_room = omega (arith, l.len)
-
--- the table's body
-module _ {b cells : List ℕ} (h : HasTable b cells) where
-  is_laid : Laid b
-  is_laid = laid b h.laid_out_is
-
-  pub table_long : 16 ≤ length b
-  table_long = omega (arith, contents_room is_laid)
-
-  module _ {s : Sizes} (e : s ≡ sizes_of b) where
-    pub table_fits : Fits w64 (s.rows * s.columns)
-    table_fits = rw e (cells_fit is_laid.sizes)
-
-    module _ {at : ℕ} (a : at ≡ offset_of b 0) where
-      pub table_begins : at ≤ length b
-      table_begins = omega (arith, table_inside is_laid)
-
-      pub table_body : Body 4 (s.rows * s.columns) (take (length b - at) (drop at b)) cells
-      unfolding decode
-      table_body = rw e (record { bytes = part_room b at (offset_of b 0) a _ (table_inside is_laid); numbers = h.room })
-
-      pub table_read : (old new : List ℕ) → new ≡ written (tabulate (s.rows * s.columns) (cell_in (take (length b - at) (drop at b)))) old → new ≡ written (decode b).cells old
-      unfolding decode
-      table_read old new q =
-          let part : take (length b - at) (drop at b) ≡ drop (offset_of b 0) b = rest b at ∙ ap (λ (i : ℕ). drop i b) a in
-          let same : tabulate (s.rows * s.columns) (cell_in (take (length b - at) (drop at b))) ≡ tabulate (rows_of b * columns_of b) (cell_of b) =
-          rw (part, e) (tabulate_ext _ _ _ (λ i l. number_drop 4 (offset_of b 0) b (4 * i))) in
-          q ∙ ap (λ (l : List ℕ). written l old) same
-
--- array k
-module _ {b : List ℕ} {k : ℕ} (h : HasArray b k) where
-  has_laid : Laid b
-  has_laid = laid b h.laid_out_is
-
-  pub array_entry : 16 + 8 * (k + 1) ≤ length b
-  array_entry = omega (arith, contents_room has_laid, h.there, decode_arrays b)
-
-  pub array_next : Fits w64 (k + 1)
-  array_next = record { fits = omega (arith, has_laid.sizes.arrays, h.there, decode_arrays b) }
-
-  pub array_long : 16 ≤ length b
-  array_long = omega (arith, array_entry)
-
-  pub weight_read : {x : ℕ} → x ≡ amount_of b (k + 1) → x ≡ (array_at (decode b).arrays k).weight
-  weight_read e = e ∙ sym (decode_weight b k h.there)
-
-module _ {b : List ℕ} {k : ℕ} {counts : List ℕ} (h : HasCounts b k counts) where
-  array_laid : Laid b
-  array_laid = laid b h.array.laid_out_is
-
-  array_inside : offset_of b (k + 1) + 2 * (rows_of b * columns_of b) ≤ length b
-  array_inside = body_inside array_laid k (omega (arith, h.array.there, decode_arrays b))
-
-  module _ {s : Sizes} (e : s ≡ sizes_of b) where
-    pub array_sizes : Bounded s.rows s.columns s.arrays
-    array_sizes = rw e array_laid.sizes
-
-    module _ {at : ℕ} (a : at ≡ offset_of b (k + 1)) where
-      pub array_begins : at ≤ length b
-      array_begins = omega (arith, array_inside)
-
-      pub array_body : Body 2 (s.rows * s.columns) (take (length b - at) (drop at b)) counts
-      unfolding decode
-      array_body = rw e (record { bytes = part_room b at (offset_of b (k + 1)) a _ array_inside; numbers = h.room })
-
-      pub array_read : (old new : List ℕ) → new ≡ written (tabulate (s.rows * s.columns) (count_in (take (length b - at) (drop at b)))) old
-          → new ≡ written (array_at (decode b).arrays k).counts old
-      array_read old new q =
-          let part : take (length b - at) (drop at b) ≡ drop (offset_of b (k + 1)) b = rest b at ∙ ap (λ (i : ℕ). drop i b) a in
-          let same : tabulate (s.rows * s.columns) (count_in (take (length b - at) (drop at b))) ≡ tabulate (rows_of b * columns_of b) (count_of b (k + 1)) =
-          rw (part, e) (tabulate_ext _ _ _ (λ i l. number_drop 2 (offset_of b (k + 1)) b (2 * i))) in
-          q ∙ ap (λ (l : List ℕ). written l old) (same ∙ sym (decode_counts b k h.array.there))
 
 -- a plan that is laid out has a head
 pub laid_long : (b : List ℕ) → laid_out b ≡ true → 16 ≤ length b

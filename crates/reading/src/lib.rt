@@ -6,7 +6,7 @@ ghost use Rattle.base.specs.Lists.{tabulate};
 ghost use Rattle.base.specs.Buffers.{written};
 ghost use Rattle.weighted_arrays.specs.Plan.{array_at};
 ghost use Rattle.form.specs.Form.{decode, laid_out};
-ghost use Rattle.reading.specs.Clauses.{cell_in, count_in, Body, Sized, HasArray, HasTable, HasCounts};
+ghost use Rattle.reading.specs.Clauses.{cell_in, count_in, Sized};
 
 use byte_numbers::read::{four, two};
 use form::Sizes;
@@ -39,7 +39,9 @@ impl<'a> LaidOut<'a> {
         requires { self.now.sizes.rows * self.now.sizes.columns ≤ length cells.old }
         ensures { cells.new ≡ written (decode self.now.bytes.now).cells cells.old }
     {
-        read_table(self.bytes, cells);
+        let body = offset(self.bytes, 0);
+        let count = self.sizes.rows * self.sizes.columns;
+        cells_from(&self.bytes[body..], &mut cells[..count]);
     }
 
     // The weight of array k, counted from 0.
@@ -47,63 +49,38 @@ impl<'a> LaidOut<'a> {
         requires { k < self.now.sizes.arrays }
         ensures { result ≡ (array_at (decode self.now.bytes.now).arrays k).weight }
     {
-        weight(self.bytes, k)
+        amount(self.bytes, k + 1)
     }
 
-    // Reads the counts of array k, counted from 0.
+    // Reads the counts of array k, counted from 0: its body begins where its entry of the contents points.
     pub fn read_array(&self, k: usize, counts: &mut [u16])
         requires there { k < self.now.sizes.arrays }
         requires room { self.now.sizes.rows * self.now.sizes.columns ≤ length counts.old }
         ensures { counts.new ≡ written (array_at (decode self.now.bytes.now).arrays k).counts counts.old }
     {
-        read_array(self.bytes, k, counts);
+        let body = offset(self.bytes, k + 1);
+        let count = self.sizes.rows * self.sizes.columns;
+        counts_from(&self.bytes[body..], &mut counts[..count]);
     }
 }
 
-// Reads `count` cells of the table whose body the bytes begin with.
-fn cells_from(body: &[u8], count: usize, cells: &mut [u32])
-    requires { Body 4 count body.now cells.old }
-    ensures { cells.new ≡ written (tabulate count (cell_in body.now)) cells.old }
+// Reads cells of the table, whose body the bytes begin with.
+fn cells_from(body: &[u8], cells: &mut [u32])
+    requires { 4 * length cells.old ≤ length body.now }
+    ensures { cells.new ≡ tabulate (length cells.old) (cell_in body.now) }
 {
-    for i in 0..count {
-        cells[i] = four(body, 4 * i);
+    for (i, cell) in cells.iter_mut().enumerate() {
+        *cell = four(body, 4 * i);
     }
 }
 
-// Reads `count` counts of the array whose body the bytes begin with.
-fn counts_from(body: &[u8], count: usize, counts: &mut [u16])
-    requires { Body 2 count body.now counts.old }
-    ensures { counts.new ≡ written (tabulate count (count_in body.now)) counts.old }
+// Reads counts of an array, whose body the bytes begin with.
+// stays: one function for cells and counts needs a trait whose law says the number in some bytes, and its clauses are longer than these two loops.
+fn counts_from(body: &[u8], counts: &mut [u16])
+    requires { 2 * length counts.old ≤ length body.now }
+    ensures { counts.new ≡ tabulate (length counts.old) (count_in body.now) }
 {
-    for i in 0..count {
-        counts[i] = two(body, 2 * i);
+    for (i, count) in counts.iter_mut().enumerate() {
+        *count = two(body, 2 * i);
     }
-}
-
-// Reads the cells of the plan's table.
-pub fn read_table(plan: &[u8], cells: &mut [u32])
-    requires { HasTable plan.now cells.old }
-    ensures { cells.new ≡ written (decode plan.now).cells cells.old }
-{
-    let s = sizes(plan);
-    let at = offset(plan, 0);
-    cells_from(&plan[at..], s.rows * s.columns, cells);
-}
-
-// The weight of array k, counted from 0.
-pub fn weight(plan: &[u8], k: usize) -> u32
-    requires { HasArray plan.now k }
-    ensures { result ≡ (array_at (decode plan.now).arrays k).weight }
-{
-    amount(plan, k + 1)
-}
-
-// Reads the counts of array k, counted from 0: its body begins where its entry of the contents points.
-pub fn read_array(plan: &[u8], k: usize, counts: &mut [u16])
-    requires { HasCounts plan.now k counts.old }
-    ensures { counts.new ≡ written (array_at (decode plan.now).arrays k).counts counts.old }
-{
-    let s = sizes(plan);
-    let at = offset(plan, k + 1);
-    counts_from(&plan[at..], s.rows * s.columns, counts);
 }
