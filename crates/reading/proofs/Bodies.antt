@@ -1,20 +1,20 @@
 -- What the bodies of a plan that is laid out hold, as they are read. Assumes nothing.
-use mathlib.Core.Path.{◌≡◌, refl, sym, ap, ◌∙◌}
+use mathlib.Core.Path.{◌≡◌, refl, sym, ◌∙◌}
 use mathlib.Core.List.{List, ◌++◌}
-use Prim.Native.Nat.{ℕ, ◌+◌, ◌*◌, ◌-◌, ◌<◌, ◌≤◌}
+use Prim.Native.Nat.{ℕ, ◌+◌, ◌*◌, ◌<◌, ◌≤◌}
 use native.Mathlib.Omega.{arith}
-use lib.ListN.{length, take, drop}
+use lib.ListN.{length, get_or, take, drop}
+use Rattle.byte_numbers.specs.Bytes.{number}
+use Rattle.base.proofs.Tabulated.{tabulate_get_d}
 use mir.Val.{Fits}
 use mir.Syntax.{w64}
 use Rattle.std.proofs.lemmas.List.{length-take-le}
 use Rattle.base.specs.Lists.{tabulate}
 use Rattle.base.specs.Buffers.{written}
-use Rattle.base.proofs.Lists.{tabulate_ext}
 use Rattle.form.specs.declared.Sizes.{Sizes}
 use Rattle.weighted_arrays.specs.Plan.{array_at}
 use Rattle.form.specs.Form.{rows_of, columns_of, amount_of, offset_of, cell_of, count_of, decode}
-use Rattle.reading.specs.Clauses.{cell_in, count_in, Sized}
-use Rattle.byte_numbers.proofs.Numbers.{rest, number_drop, part_room}
+use Rattle.reading.specs.Clauses.{Sized}
 use Rattle.reading.proofs.Readings.{decode_arrays, decode_weight, decode_counts, counts_length, cells_length, table_inside, body_inside, contents_room}
 use Rattle.reading.proofs.Sizing.{sized_laid, arrays_are, cells_are, sized_arrays}
 
@@ -37,19 +37,15 @@ module _ {s : Sizes} {b : List ℕ} (z : Sized s b) where
   decoded_cells = refl
 
   module _ {at : ℕ} (a : at ≡ offset_of b 0) where
-    pub table_begins : at ≤ length b
-    table_begins = omega (arith, table_inside (sized_laid z))
+    pub table_number : (cells : List ℕ) → n ≤ length cells → (i : ℕ) → i < length (take n cells) → at + 4 * i + 4 ≤ length b
+    table_number cells h i l = omega (arith, table_inside (sized_laid z), length-take-le n cells h, n_is, a)
 
-    pub table_body : (cells : List ℕ) → n ≤ length cells → 4 * length (take n cells) ≤ length (take (length b - at) (drop at b))
-    table_body cells h = rw (length-take-le n cells h, n_is) (part_room b at (offset_of b 0) a _ (table_inside (sized_laid z)))
-
-    pub table_read : (old part : List ℕ) → n ≤ length old → part ≡ tabulate (length (take n old)) (cell_in (take (length b - at) (drop at b)))
-        → part ++ drop n old ≡ written (decode b).cells old
-    table_read old part h e =
-        let begins : take (length b - at) (drop at b) ≡ drop (offset_of b 0) b = rest b at ∙ ap (λ (i : ℕ). drop i b) a in
-        let same : tabulate (length (take n old)) (cell_in (take (length b - at) (drop at b))) ≡ (decode b).cells =
-        rw (length-take-le n old h, begins, n_is) (tabulate_ext _ _ _ (λ i l. number_drop 4 (offset_of b 0) b (4 * i)) ∙ sym decoded_cells) in
-        put_front _ _ _ (cells_length b ∙ cells_are z) (e ∙ same)
+    pub table_read : (old part : List ℕ) → n ≤ length old → length part ≡ length (take n old)
+        → ((i : ℕ) → i < length part → get_or part i 0 ≡ number 4 b (at + 4 * i)) → part ++ drop n old ≡ written (decode b).cells old
+    table_read old part h len each =
+        let m : length part ≡ rows_of b * columns_of b = len ∙ length-take-le n old h ∙ n_is in
+        let same : tabulate (rows_of b * columns_of b) (cell_of b) ≡ part = tabulate_get_d part _ 0 (cell_of b) m (λ i l. rw (← a) (sym (each i (omega arith)))) in
+        put_front _ _ _ (cells_length b ∙ cells_are z) (sym same ∙ sym decoded_cells)
 
   module _ {k : ℕ} (there : k < s.arrays) where
     inside : k < length (decode b).arrays
@@ -68,16 +64,12 @@ module _ {s : Sizes} {b : List ℕ} (z : Sized s b) where
     body_there = body_inside (sized_laid z) k (omega (arith, inside, decode_arrays b))
 
     module _ {at : ℕ} (a : at ≡ offset_of b (k + 1)) where
-      pub array_begins : at ≤ length b
-      array_begins = omega (arith, body_there)
+      pub array_number : (counts : List ℕ) → n ≤ length counts → (i : ℕ) → i < length (take n counts) → at + 2 * i + 2 ≤ length b
+      array_number counts h i l = omega (arith, body_there, length-take-le n counts h, n_is, a)
 
-      pub array_body : (counts : List ℕ) → n ≤ length counts → 2 * length (take n counts) ≤ length (take (length b - at) (drop at b))
-      array_body counts h = rw (length-take-le n counts h, n_is) (part_room b at (offset_of b (k + 1)) a _ body_there)
-
-      pub array_read : (old part : List ℕ) → n ≤ length old → part ≡ tabulate (length (take n old)) (count_in (take (length b - at) (drop at b)))
-          → part ++ drop n old ≡ written (array_at (decode b).arrays k).counts old
-      array_read old part h e =
-          let begins : take (length b - at) (drop at b) ≡ drop (offset_of b (k + 1)) b = rest b at ∙ ap (λ (i : ℕ). drop i b) a in
-          let same : tabulate (length (take n old)) (count_in (take (length b - at) (drop at b))) ≡ tabulate (rows_of b * columns_of b) (count_of b (k + 1)) =
-          rw (length-take-le n old h, begins, n_is) (tabulate_ext _ _ _ (λ i l. number_drop 2 (offset_of b (k + 1)) b (2 * i))) in
-          put_front _ _ _ (counts_length b k inside ∙ cells_are z) (e ∙ same ∙ sym (decode_counts b k inside))
+      pub array_read : (old part : List ℕ) → n ≤ length old → length part ≡ length (take n old)
+          → ((i : ℕ) → i < length part → get_or part i 0 ≡ number 2 b (at + 2 * i)) → part ++ drop n old ≡ written (array_at (decode b).arrays k).counts old
+      array_read old part h len each =
+          let m : length part ≡ rows_of b * columns_of b = len ∙ length-take-le n old h ∙ n_is in
+          let same : tabulate (rows_of b * columns_of b) (count_of b (k + 1)) ≡ part = tabulate_get_d part _ 0 (count_of b (k + 1)) m (λ i l. rw (← a) (sym (each i (omega arith)))) in
+          put_front _ _ _ (counts_length b k inside ∙ cells_are z) (sym same ∙ sym (decode_counts b k inside))

@@ -1,7 +1,7 @@
 -- What the sizes of a plan that is laid out say of what it holds. Assumes nothing.
 use mathlib.Core.Path.{◌≡◌, refl, ◌∙◌}
 use mathlib.Core.List.{List}
-use Prim.Native.Nat.{ℕ, ◌*◌, ◌<◌, ◌≤◌}
+use Prim.Native.Nat.{ℕ, ◌*◌, ◌≤◌}
 use native.Mathlib.Omega.{arith}
 use lib.ListN.{length}
 use mir.Val.{Fits}
@@ -11,7 +11,7 @@ use Rattle.form.specs.declared.Sizes.{Sizes}
 use Rattle.weighted_arrays.specs.Plan.{cell_count}
 use Rattle.form.specs.Form.{decode}
 use Rattle.form.specs.Clauses.{Laid}
-use Rattle.reading.specs.Clauses.{Sized, HasTable, HasArray, HasCounts}
+use Rattle.reading.specs.Clauses.{Sized}
 use Rattle.form.proofs.Layouts.{laid, cells_few}
 use Rattle.reading.proofs.Readings.{decode_arrays}
 
@@ -63,12 +63,3 @@ module _ {s : Sizes} {b : List ℕ} (z : Sized s b) where
         columns = rw z.sizes l.sizes.columns;
         cells = e ∙ cells_are;
       }
-
-  pub has_array : {k : ℕ} → k < s.arrays → HasArray b k
-  has_array h = record { laid_out_is = z.laid_out_is; there = rw arrays_are h }
-
-  pub has_counts : {k : ℕ} {counts : List ℕ} → k < s.arrays → s.rows * s.columns ≤ length counts → HasCounts b k counts
-  has_counts h r = record { array = has_array h; room = omega (arith, cells_are) }
-
-  pub has_table : {cells : List ℕ} → s.rows * s.columns ≤ length cells → HasTable b cells
-  has_table r = record { laid_out_is = z.laid_out_is; room = omega (arith, cells_are) }

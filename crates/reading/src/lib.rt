@@ -1,12 +1,11 @@
 // What a plan that is laid out holds: its table, and the weight and the counts of each array.
 #![tactic(auto)]
 
-ghost use Rattle.std.specs.Prelude.{◌≡◌, ◌*◌, ◌<◌, ◌≤◌, false, length, MatchOption};
-ghost use Rattle.base.specs.Lists.{tabulate};
+ghost use Rattle.std.specs.Prelude.{◌≡◌, ◌+◌, ◌*◌, ◌<◌, ◌≤◌, ℕ, false, length, get_or, MatchOption};
 ghost use Rattle.base.specs.Buffers.{written};
 ghost use Rattle.weighted_arrays.specs.Plan.{array_at};
 ghost use Rattle.form.specs.Form.{decode, laid_out};
-ghost use Rattle.reading.specs.Clauses.{cell_in, count_in, Sized};
+ghost use Rattle.reading.specs.Clauses.{Sized};
 
 use byte_numbers::read::{four, two};
 use form::Sizes;
@@ -39,9 +38,15 @@ impl<'a> LaidOut<'a> {
         requires { self.now.sizes.rows * self.now.sizes.columns ≤ length cells.old }
         ensures { cells.new ≡ written (decode self.now.bytes.now).cells cells.old }
     {
-        let body = offset(self.bytes, 0);
+        let bytes = self.bytes;
+        let body = offset(bytes, 0);
         let count = self.sizes.rows * self.sizes.columns;
-        cells_from(&self.bytes[body..], &mut cells[..count]);
+        fill_by(
+            &mut cells[..count],
+            |i: usize| -> u32
+                requires { body + 4 * i + 4 ≤ length bytes.now }
+            { four(bytes, body + 4 * i) },
+        );
     }
 
     // The weight of array k, counted from 0.
@@ -58,29 +63,24 @@ impl<'a> LaidOut<'a> {
         requires room { self.now.sizes.rows * self.now.sizes.columns ≤ length counts.old }
         ensures { counts.new ≡ written (array_at (decode self.now.bytes.now).arrays k).counts counts.old }
     {
-        let body = offset(self.bytes, k + 1);
+        let bytes = self.bytes;
+        let body = offset(bytes, k + 1);
         let count = self.sizes.rows * self.sizes.columns;
-        counts_from(&self.bytes[body..], &mut counts[..count]);
+        fill_by(
+            &mut counts[..count],
+            |i: usize| -> u16
+                requires { body + 2 * i + 2 ≤ length bytes.now }
+            { two(bytes, body + 2 * i) },
+        );
     }
 }
 
-// Reads cells of the table, whose body the bytes begin with.
-fn cells_from(body: &[u8], cells: &mut [u32])
-    requires { 4 * length cells.old ≤ length body.now }
-    ensures { cells.new ≡ tabulate (length cells.old) (cell_in body.now) }
+// Fills a slice with what a function gives of each place.
+fn fill_by<T: Copy, F: Fn(usize) -> T>(slots: &mut [T], value: F)
+    requires { (i : ℕ) → i < length slots.old → F.pre value i }
+    ensures { (i : ℕ) (d : T) → i < length slots.new → F.post value i (get_or slots.new i d) }
 {
-    for (i, cell) in cells.iter_mut().enumerate() {
-        *cell = four(body, 4 * i);
-    }
-}
-
-// Reads counts of an array, whose body the bytes begin with.
-// stays: one function for cells and counts needs a trait whose law says the number in some bytes, and its clauses are longer than these two loops.
-fn counts_from(body: &[u8], counts: &mut [u16])
-    requires { 2 * length counts.old ≤ length body.now }
-    ensures { counts.new ≡ tabulate (length counts.old) (count_in body.now) }
-{
-    for (i, count) in counts.iter_mut().enumerate() {
-        *count = two(body, 2 * i);
+    for (i, slot) in slots.iter_mut().enumerate() {
+        *slot = value(i);
     }
 }
