@@ -27,7 +27,7 @@ use Rattle.base.proofs.Buffers.{written_at, written_length}
 use Rattle.form.specs.declared.Sizes.{Sizes}
 use Rattle.weighted_arrays.specs.Plan.{Weighted, array_at, cell_count, array_for, weights_before}
 use Rattle.form.specs.Form.{decode}
-use Rattle.reading.specs.Clauses.{HasArray, Sized}
+use Rattle.reading.specs.Clauses.{Sized}
 use Rattle.reading.proofs.Sizing.{arrays_are, denominator_is, sized_arrays, sized_denominator}
 use Rattle.weighted_arrays.specs.Clauses.{weight_at, factored}
 use Rattle.weighted_arrays.proofs.Belonging.{array_for_lem}
@@ -66,9 +66,6 @@ module _ {s : Sizes} {b : List ℕ} (z : Sized s b) where
     part_at {k} h = get_or-take s.arrays taken k 0 (omega (arith, part_length))
 
   module _ {k n : ℕ} (i : n ≡ length (decode b).arrays) (h : k < n) where
-    pub array_there : HasArray b k
-    array_there = record { laid_out_is = z.laid_out_is; there = rw i at h }
-
     pub array_place : k < 170
     array_place = omega (arith, arrays_few)
 

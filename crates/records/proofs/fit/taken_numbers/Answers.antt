@@ -1,12 +1,12 @@
 use borrow.Author.Rules.{rules}
-use Rattle.records.proofs.Fitting.{arrays_end, array_there, array_place, array_scaled, along_none, along_room, along_fits, along_more, along_all}
+use Rattle.records.proofs.Fitting.{arrays_end, array_place, array_scaled, along_none, along_room, along_fits, along_more, along_all}
 use Rattle.records.proofs.fit.taken_numbers.Goals as goal
 
 pub loop-k-init : goal.loop-k-init
 loop-k-init c = search (rules, along_none)
 
 pub weight-w-requires : goal.weight-w-requires
-weight-w-requires c = search (rules, arrays_end, array_there)
+weight-w-requires c = search (rules, arrays_end)
 
 pub bits_set-requires : goal.bits_set-requires
 bits_set-requires c = search (rules, arrays_end, along_room)
