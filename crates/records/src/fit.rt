@@ -1,11 +1,11 @@
 // Whether a campaign record fits a plan: refusal 9.
 ghost use Rattle.std.specs.Prelude.{◌≡◌, ◌^◌, ◌<◌, sum};
 ghost use Rattle.form.specs.Form.{decode};
-ghost use Rattle.records.specs.Record.{record_of, within, fits};
+ghost use Rattle.records.specs.Record.{record_of, fits};
 ghost use Rattle.records.specs.Clauses.{Numbered, taken_numbers, Fitted};
 
+use crate::Record;
 use crate::tally::tally_fits;
-use crate::{MAX_ROUNDS, Record};
 use bits::{bits_set, spare_clear};
 use opening::open::OpenPlan;
 use reading::LaidOut;
@@ -33,14 +33,6 @@ fn all_taken(taken: &[u32]) -> u32
     taken.iter().sum()
 }
 
-// Whether a campaign can stand at this count and these rounds.
-#[tactic(auto, unfolding(crate::specs::Record::within))]
-fn within(denominator: u32, taken: u32, rounds: u16) -> bool
-    ensures { result ≡ within denominator taken rounds }
-{
-    rounds <= MAX_ROUNDS && taken < denominator && (rounds < MAX_ROUNDS || taken == 0)
-}
-
 // Whether the record fits the opened plan. The time is that of the D bits and of the counts of the K arrays.
 pub fn fits(plan: &OpenPlan, record: Record, bits: &[u8], tally: &[u64]) -> bool
     requires { Fitted plan.now.plan.sizes bits.now tally.now }
@@ -50,6 +42,6 @@ pub fn fits(plan: &OpenPlan, record: Record, bits: &[u8], tally: &[u64]) -> bool
     let numbers = taken_numbers(&plan.plan, bits);
     spare_clear(bits, s.denominator as usize)
         && all_taken(&numbers[..s.arrays]) == record.taken
-        && within(s.denominator, record.taken, record.rounds)
+        && record.within(s.denominator)
         && tally_fits(&plan.plan, record.rounds, &numbers, tally)
 }

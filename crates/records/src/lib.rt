@@ -2,18 +2,31 @@
 #![tactic(auto)]
 
 ghost use Rattle.std.specs.Prelude.{◌≡◌, map};
-ghost use Rattle.records.specs.Record.{max_rounds, fits};
+ghost use Rattle.records.specs.Record.{max_rounds, within, fits};
 ghost use Rattle.records.specs.Examples.{rows};
 
 pub mod fit;
 mod tally;
 
 // The part of a campaign record that is no buffer: the count of numbers taken, and the rounds completed.
+// stays: bits and tally are slices beside it, as C hands them (`lufodimi_start`, `lufodimi_campaign_draw`).
 #[repr(C)]
 #[derive(Clone, Copy, Debug, PartialEq, Eq)]
 pub struct Record {
     pub taken: u32,
     pub rounds: u16,
+}
+
+impl Record {
+    // Whether a campaign over this denominator can stand at this count and these rounds.
+    #[tactic(auto, unfolding(crate::specs::Record::within))]
+    fn within(self, denominator: u32) -> bool
+        ensures { result ≡ within denominator self.taken self.rounds }
+    {
+        self.rounds <= MAX_ROUNDS
+            && self.taken < denominator
+            && (self.rounds < MAX_ROUNDS || self.taken == 0)
+    }
 }
 
 // A campaign has at most so many rounds.
