@@ -136,16 +136,16 @@ pub table_held : {r c d : ℕ} {e g : List ℕ} → IsTable r c d g → e ≡ gr
 table_held t is = holds_table t.shape is (rw is (grid_small t))
 
 -- a round of it
-module _ {r c : ℕ} {w : ℕ} (wp : 0 < w) {e n : List ℕ} (h : HoldsTable r c e) {l : List ℕ} {x : ℕ} (o : NextArray w e n l x) where
+module _ {r c : ℕ} {w : ℕ} (wp : 0 < w) {e n : List ℕ} (h : HoldsTable r c e) {x : ℕ} {e' : List ℕ} (o : RoundDone w e n x e') where
   weight_same : x ≡ weight_of r c w (cells_in r c e) (first_rounding r c w (cells_in r c e))
   weight_same = o.weight r c (cells_in r c e) h.shape h.grid
 
   pub weight_within : x ≤ w
   weight_within = omega (arith, weight_same, weight_high h.shape w wp _ (first_exists h.shape wp).rounding)
 
-  pub rest_held : {e' : List ℕ} → Lost x e n e' → HoldsTable r c e'
+  pub rest_held : Lost x e n e' → HoldsTable r c e'
   unfolding rest
-  rest_held {e'} z = holds_table shape (left_is wp o r c (cells_in r c e) h.shape h.grid z) (λ k. small k (dec_lt k 169))
+  rest_held z = holds_table shape (o.left r c (cells_in r c e) h.shape h.grid) (λ k. small k (dec_lt k 169))
     where
       shape : Shape r c (without x (first_rounding r c w (cells_in r c e)) (cells_in r c e))
       shape = rw weight_same (rest_shape h.shape w wp _ (first_exists h.shape wp).rounding)

@@ -8,7 +8,7 @@ use Rattle.table.specs.Whole.{down, rounds_to, up}
 use Rattle.table.specs.Clauses.{Shape, IsTable, max_entry}
 use Rattle.first_rounding.specs.First.{first_rounding}
 use Rattle.is_rounding.specs.Rounding.{two_ways, is_rounding}
-use Rattle.first_rounding.specs.Clauses.{rounded_down}
+use Rattle.first_rounding.specs.Clauses.{rounded_down, IsGrid}
 use Rattle.weighted_arrays.specs.Plan.{Weighted}
 use Rattle.planning.specs.Rounds.{limit_of, weight_of, without, Round, rounds_from, plan_rounds, arrays_in, AreRounds, not_whole}
 
@@ -89,11 +89,26 @@ pub record HoldsTable (r c : ℕ) (e : List ℕ) : Type 0 where
   pub grid : e ≡ grid_of r c (cells_in r c e)
   pub small : (k : ℕ) → get_or e k 0 ≤ max_entry
 
+-- what the next array of a remaining table needs: entries, a weight that is left, and room for counts and limits
+pub record NextReady (w : ℕ) (e n l : List ℕ) : Type 0 where
+  pub grid : IsGrid e
+  pub some : 0 < w
+  pub small : w ≤ max_denominator
+  pub counts_room : length n ≡ 169
+  pub limits_room : length l ≡ 169
+
 -- the next array: for the table that has the entries e, n has the array's, x is its weight, and l has the limit of each entry
 pub record NextArray (w : ℕ) (e n l : List ℕ) (x : ℕ) : Type 0 where
   pub array : (r c : ℕ) (g : List ℕ) → Shape r c g → e ≡ grid_of r c g → n ≡ grid_of r c (first_rounding r c w g)
   pub limits : l ≡ tabulate 169 (limit_at w e n)
   pub weight : (r c : ℕ) (g : List ℕ) → Shape r c g → e ≡ grid_of r c g → x ≡ weight_of r c w g (first_rounding r c w g)
+
+-- what a round needs: entries, a weight that is left, and room for counts
+pub record RoundReady (w : ℕ) (e n : List ℕ) : Type 0 where
+  pub grid : IsGrid e
+  pub some : 0 < w
+  pub small : w ≤ max_denominator
+  pub len : length n ≡ 169
 
 -- one round: n and x are the next array and its weight, and e' has the entries of what is left
 pub record RoundDone (w : ℕ) (e n : List ℕ) (x : ℕ) (e' : List ℕ) : Type 0 where

@@ -2,12 +2,35 @@
 ghost use Rattle.std.specs.Prelude.{◌≡◌, ◌+◌, ◌≤◌, ◌<◌};
 ghost use Rattle.table.specs.Table.{max_denominator};
 ghost use Rattle.grid.specs.Clauses.{grid_of};
-ghost use Rattle.planning.specs.Clauses.{HoldsTable, NextArray, RoundDone};
+ghost use Rattle.planning.specs.Clauses.{HoldsTable, NextReady, NextArray, RoundReady, Lost, RoundDone};
 
 use crate::limits::{limits, lose, smallest};
 use first_rounding::round_grid;
 use grid::entries;
 use table::check::Accepted;
+
+// The next array n of a remaining table with entries e over w, the limits l of its entries, and its weight.
+pub fn next_array(e: &[u64; 169], w: u64, n: &mut [u64; 169], l: &mut [u64; 169]) -> u64
+    requires { NextReady w e.now n.old l.old }
+    ensures { NextArray w e.now n.new l.new result }
+{
+    let mut q = [0u64; 169];
+    round_grid(e, w, &mut q, n);
+    limits(w, e, &q, n, l);
+    smallest(l)
+}
+
+// The next array n and its weight; e is then what is left.
+pub fn one_round(e: &mut [u64; 169], w: u64, n: &mut [u64; 169]) -> u64
+    requires { RoundReady w e.old n.old }
+    ensures round { RoundDone w e.old n.new result e.new }
+    ensures lost { Lost result e.old n.new e.new }
+{
+    let mut l = [0u64; 169];
+    let x = next_array(e, w, n, &mut l);
+    lose(x, n, e);
+    x
+}
 
 // What is left of a table: the entries, and the weight that they are over.
 #[derive(Clone, Copy)]
@@ -41,10 +64,7 @@ impl Remaining {
         requires { 0 < self.now.weight }
         ensures { NextArray self.now.weight self.now.entries n.new l.new result }
     {
-        let mut q = [0u64; 169];
-        round_grid(&self.entries, self.weight, &mut q, n);
-        limits(self.weight, &self.entries, &q, n, l);
-        smallest(l)
+        next_array(&self.entries, self.weight, n, l)
     }
 
     // The next array n and its weight, which are then taken off.
@@ -55,9 +75,7 @@ impl Remaining {
         ensures rows { self.new.rows ≡ self.old.rows }
         ensures columns { self.new.columns ≡ self.old.columns }
     {
-        let mut l = [0u64; 169];
-        let x = self.next_array(n, &mut l);
-        lose(x, n, &mut self.entries);
+        let x = one_round(&mut self.entries, self.weight, n);
         self.weight -= x;
         x
     }

@@ -1,10 +1,7 @@
-use Rattle.planning.proofs.GridRounds.{is_grid, rounded, next_array_is}
+use Rattle.planning.proofs.GridRounds.{is_grid}
 use Rattle.planning.proofs.round.Remaining.next_array.Goals as goal
 
-pub limits-requires : goal.limits-requires
-limits-requires c =
+pub next_array-requires : goal.next_array-requires
+next_array-requires c =
     let s = c.args.self.now in
-    record { rounded = rounded c.requires (is_grid s.table) s.small c.round_grid.ensures.array; quotients = c.round_grid.ensures.low; len = search }
-
-pub returns : goal.returns
-returns c = next_array_is c.requires (is_grid c.args.self.now.table) c.round_grid.ensures.array c.limits.ensures c.smallest.ensures
+    record { grid = is_grid s.table; some = c.requires; small = s.small; counts_room = search; limits_room = search }

@@ -1,20 +1,17 @@
 use native.Mathlib.Omega.{arith}
-use Rattle.planning.proofs.GridRounds.{is_grid, grid_length, bears, round_done, weight_within, rest_held}
+use Rattle.planning.proofs.GridRounds.{is_grid, weight_within, rest_held}
 use Rattle.planning.proofs.round.Remaining.one_round.Goals as goal
 
-pub lose-requires : goal.lose-requires
-lose-requires c =
-    let i = is_grid c.args.self.now.table in
-    bears c.requires i c.next_array-x.ensures (grid_length i)
+pub one_round-x-requires : goal.one_round-x-requires
+one_round-x-requires c =
+    let s = c.args.self.now in
+    record { grid = is_grid s.table; some = c.requires; small = s.small; len = search }
 
 pub overflow_sub-self : goal.overflow_sub-self
-overflow_sub-self c = weight_within c.requires c.args.self.now.table c.next_array-x.ensures
+overflow_sub-self c = weight_within c.requires c.args.self.now.table c.one_round-x.ensures.round
 
 pub invariant_of-self : goal.invariant_of-self
-invariant_of-self c = record { table = rest_held c.requires c.args.self.now.table c.next_array-x.ensures c.lose.ensures; small = omega (arith, c.args.self.now.small) }
-
-pub returns-clause-round : goal.returns-clause-round
-returns-clause-round c = round_done c.requires (is_grid c.args.self.now.table) c.next_array-x.ensures c.lose.ensures
+invariant_of-self c = record { table = rest_held c.requires c.args.self.now.table c.one_round-x.ensures.round c.one_round-x.ensures.lost; small = omega (arith, c.args.self.now.small) }
 
 pub returns-clause-weight : goal.returns-clause-weight
-returns-clause-weight c = omega (arith, weight_within c.requires c.args.self.now.table c.next_array-x.ensures)
+returns-clause-weight c = omega (arith, weight_within c.requires c.args.self.now.table c.one_round-x.ensures.round)
