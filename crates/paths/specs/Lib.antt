@@ -1,2 +1,3 @@
-pub mod Calls
 pub mod Clauses
+pub mod Search
+pub mod Calls

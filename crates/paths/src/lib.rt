@@ -2,6 +2,7 @@
 #![tactic(auto)]
 
 ghost use Rattle.std.specs.Prelude.{◌<◌};
+ghost use Rattle.paths.specs.Search.{SearchReady, SearchFound};
 ghost use Rattle.paths.specs.Clauses.{Trail, FlipReady, NotBoth, Flipped, OneMore};
 
 use sets::{meet, minus, pick, single, some, union_of, with, without};
@@ -28,6 +29,43 @@ pub struct Found {
     pub level: usize,
 }
 
+// Goes from row `start` to columns that can be raised, from these to rows that can be lowered, and so on, until a column of `ends` is reached:
+// that column and its level, or none. Keeps the rows and the columns of each level.
+pub fn reach(
+    up: &[u32; 13],
+    down: &[u32; 13],
+    ends: u32,
+    start: usize,
+    reached: &mut Reached,
+) -> Option<Found>
+    requires { SearchReady start reached.old }
+    ensures { SearchFound up.now down.now ends start reached.new result }
+{
+    let mut front = single(start);
+    let mut rows_left = minus(8191, front);
+    let mut cols_left: u32 = 8191;
+    reached.rows[0] = front;
+    for level in 0..13 {
+        let next = meet(union_of(up, front), cols_left);
+        let hits = meet(ends, next);
+        if hits != 0 {
+            return Some(Found {
+                column: some(hits),
+                level,
+            });
+        }
+        if next == 0 {
+            return None;
+        }
+        cols_left = minus(cols_left, next);
+        front = meet(union_of(down, next), rows_left);
+        rows_left = minus(rows_left, front);
+        reached.cols[level] = next;
+        reached.rows[level + 1] = front;
+    }
+    None
+}
+
 // Flips a place: takes q out of the set p of `a`, and puts p into the set q of `b`.
 pub fn flip(a: &mut [u32; 13], b: &mut [u32; 13], p: usize, q: usize)
     requires { FlipReady a.old b.old p q }
@@ -38,38 +76,7 @@ pub fn flip(a: &mut [u32; 13], b: &mut [u32; 13], p: usize, q: usize)
 }
 
 impl FreePlaces {
-    ghost use Rattle.paths.specs.Calls.{SearchReady, SearchFound, Augmented};
-
-    // Goes from row `start` to columns that can be raised, from these to rows that can be lowered, and so on, until a column of `ends` is reached:
-    // that column and its level, or none. Keeps the rows and the columns of each level.
-    pub fn reach(&self, ends: u32, start: usize, reached: &mut Reached) -> Option<Found>
-        requires { SearchReady start reached.old }
-        ensures { SearchFound self.now ends start reached.new result }
-    {
-        let mut front = single(start);
-        let mut rows_left = minus(8191, front);
-        let mut cols_left: u32 = 8191;
-        reached.rows[0] = front;
-        for level in 0..13 {
-            let next = meet(union_of(&self.up, front), cols_left);
-            let hits = meet(ends, next);
-            if hits != 0 {
-                return Some(Found {
-                    column: some(hits),
-                    level,
-                });
-            }
-            if next == 0 {
-                return None;
-            }
-            cols_left = minus(cols_left, next);
-            front = meet(union_of(&self.down, next), rows_left);
-            rows_left = minus(rows_left, front);
-            reached.cols[level] = next;
-            reached.rows[level + 1] = front;
-        }
-        None
-    }
+    ghost use Rattle.paths.specs.Calls.{Augmented};
 
     // Goes back from the column that was found to row `start`, and raises and lowers in turn.
     pub fn flip_path(&mut self, reached: &Reached, start: usize, found: Found)
@@ -95,7 +102,7 @@ impl FreePlaces {
             rows: [0; 14],
             cols: [0; 14],
         };
-        let found = self.reach(ends, start, &mut reached)?;
+        let found = reach(&self.up, &self.down, ends, start, &mut reached)?;
         self.flip_path(&reached, start, found);
         Some(found.column)
     }

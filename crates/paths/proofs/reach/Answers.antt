@@ -1,6 +1,6 @@
 use borrow.Author.Rules.{rules}
 use Rattle.paths.proofs.Searches.{one_le, progress_start, progress_found, progress_shut, progress_full, progress_step}
-use Rattle.paths.proofs.FreePlaces.reach.Goals as goal
+use Rattle.paths.proofs.reach.Goals as goal
 
 pub minus-rows_left-requires : goal.minus-rows_left-requires
 minus-rows_left-requires c = search (rules, one_le)
