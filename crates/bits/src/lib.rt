@@ -8,6 +8,7 @@ ghost use Rattle.bits.specs.Examples.{two_bytes, numbers, lengths, spares};
 ghost use Rattle.bits.specs.Examples as examples;
 
 // Bit d, 0 or 1.
+// stays: a number, since bits are added up
 pub fn bit(bits: &[u8], d: usize) -> u32
     requires { d < 8 * length bits.now }
     ensures { result ≡ bit_of bits.now d }

@@ -1,4 +1,5 @@
 // Numbers in a slice of bytes, low byte first.
+// stays: one function a width, since a number of each width has a type of its own and each is one line of std's
 ghost use Rattle.std.specs.Prelude.{◌≡◌, ◌+◌, ◌≤◌, length};
 ghost use Rattle.byte_numbers.specs.Bytes.{number};
 

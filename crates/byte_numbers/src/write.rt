@@ -1,4 +1,5 @@
 // Numbers put into a slice of bytes, low byte first.
+// stays: one function a width, as in `read`
 ghost use Rattle.std.specs.Prelude.{◌≡◌, ◌+◌, ◌≤◌, length};
 ghost use Rattle.base.specs.Buffers.{put_at};
 ghost use Rattle.byte_numbers.specs.Bytes.{bytes};

@@ -39,7 +39,7 @@ fn write_counts(t: Table, cells: &[i32], out: &mut [i16])
 }
 
 // Writes the first controlled rounding of a table of corrections, or returns the lowest refusal that applies.
-// stays: beside rounding::round, which has cells of another type; one generic function would need a trait with a check and a writer, and be longer than both.
+// stays: beside rounding::round, which has cells of another type; one generic function would need a trait with a check and a writer, and be longer than both
 pub fn round(
     rows: u32,
     columns: u32,

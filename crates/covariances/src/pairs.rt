@@ -53,6 +53,7 @@ fn all_pairs(plan: &OpenPlan, cells: &[u32], counts: &[[u16; 144]; 170]) -> Extr
         low: 2 * LIFT,
         high: 0,
     };
+    // stays: a is the place that is passed on
     for a in 0..cells.len() {
         e = pairs_of(plan, cells, counts, a, e);
     }

@@ -8,6 +8,7 @@ use crate::line::Line;
 use table::whole::divide;
 
 // The entries over w, rounded down and up, and their gaps.
+// stays: three arrays, since whoever calls keeps the first for the limits, while the others end with the rounding
 pub fn quotients(
     e: &[u64; 169],
     w: u64,
@@ -18,7 +19,7 @@ pub fn quotients(
     requires { QuotientsReady w e.now low.old high.old cap.old }
     ensures { Quotients w e.now low.new high.new cap.new }
 {
-    // stays: of what an adapter of `iter_mut` passes on, a proof knows no value
+    // stays: with `iter_mut().enumerate()` the other arrays would be read by the same number
     for k in 0..169 {
         let d = divide(e[k], w);
         low[k] = d.whole;
@@ -52,7 +53,7 @@ pub fn counts(low: &[u64; 169], high: &[u64; 169], bits: &[u8; 169], n: &mut [u6
     requires { CountsReady low.now high.now bits.now n.old }
     ensures { n.new ≡ tabulate 169 (count_at low.now high.now bits.now) }
 {
-    // stays: of what an adapter of `iter_mut` passes on, a proof knows no value
+    // stays: with `iter_mut().enumerate()` the other arrays would be read by the same number
     for k in 0..169 {
         n[k] = count(low[k], bits[k]);
     }

@@ -38,7 +38,7 @@ pub fn offset(plan: &[u8], k: usize) -> usize
 }
 
 // Where body i begins: 0 is the table's, i is array i's, and the one after the last is the end of the plan.
-// stays: rows, columns and arrays, and no Sizes, since `length_of` reads them from eight bytes, which hold no denominator.
+// stays: rows, columns and arrays, and no Sizes, since `length_of` reads them from eight bytes, which hold no denominator
 pub fn body_at(rows: usize, columns: usize, arrays: usize, i: usize) -> usize
     requires { Bounded rows columns arrays × (i ≤ arrays + 1) }
     ensures { result ≡ body_at rows columns arrays i }

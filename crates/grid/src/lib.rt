@@ -13,6 +13,7 @@ use table::sums::sum;
 pub mod write;
 
 // The entry at row p and column q of the grid.
+// stays: only the shape of the table is asked; an `Accepted` would ask more
 pub fn entry(t: Table, cells: &[u32], p: usize, q: usize) -> u64
     requires { Shape t.rows t.columns cells.now }
     ensures { result ≡ grid_at t.rows t.columns cells.now p q }

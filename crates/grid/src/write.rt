@@ -8,7 +8,7 @@ fn write_row(n: &[u64; 169], first: usize, columns: usize, counts: &mut [u16], a
     requires { RowReady n.now first columns (length counts.old) at }
     ensures { Filled (λ j. get_or n.now (first + j) 0) at counts.old counts.new columns }
 {
-    // stays: of what an adapter of `iter_mut` passes on, a proof knows no value
+    // stays: with `iter_mut().enumerate()` the other side would be read by the same number
     for j in 0..columns {
         counts[at + j] = n[first + j] as u16;
     }

@@ -80,6 +80,7 @@ pub struct EntryBounds {
 
 impl EntryBounds {
     // The entries of a table, over the denominator rounded down and up.
+    // stays: `opening` has cells that are not yet known to be an accepted table's, so an `Accepted` would ask more
     pub fn of(cells: &[u32], rows: usize, columns: usize, denominator: u64) -> EntryBounds
         requires { BoundsReady rows columns denominator cells.now }
         ensures { Bounds (entry_places rows columns) denominator cells.now result.low result.high }
@@ -126,7 +127,7 @@ impl EntryBounds {
     }
 
     // Whether each entry of one kind of an array lies between its bounds, which stand from a place on.
-    // stays: how many do not is counted, so that a machine compares several at once; with `all` opening a plan takes a fifth longer.
+    // stays: how many do not is counted, so that a machine compares several at once; with `all` opening a plan takes a fifth longer
     fn lines_hold(&self, counts: &[u16], k: Lines, from: usize) -> bool
         requires { KindHeld k from counts.now self.now.low self.now.high }
         ensures { result ≡ lines_between counts.now self.now.low self.now.high k from }

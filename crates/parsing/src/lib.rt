@@ -13,7 +13,7 @@ pub const MAX_TEXT: usize = 4096;
 pub const MAX_NUMBER: u64 = 4294967295;
 
 // The numbers of a text: how many they are, and they themselves, with zeros after them. 4,096 bytes hold at most 2,048.
-// stays: a count beside an array, since no memory may be allocated.
+// stays: a count beside an array, since no memory may be allocated
 #[derive(Clone, Copy)]
 pub struct Numbers {
     pub count: usize,

@@ -58,6 +58,7 @@ pub fn plan(
 }
 
 // The number that an answer stands for: the length, which is 30 or more, or the refusal's.
+// stays: a number, for the C interface
 pub fn planned_number(r: Result<u32, Refusal>) -> u32
     ensures { result ≡ planned_number r }
 {

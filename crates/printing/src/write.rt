@@ -1,5 +1,5 @@
 // Bytes written into a lent buffer from a place on. Each function returns the place after them.
-// stays: buffer and place stand side by side, since `Wrote`, by which `plan_text::output` says what is printed, takes both.
+// stays: buffer and place stand side by side, since `Wrote`, by which `plan_text::output` says what is printed, takes both
 ghost use Rattle.std.specs.Prelude.{[], ◌∷◌, ◌++◌, ◌+◌, ◌≤◌, length};
 ghost use Rattle.printing.specs.Lines.{decimal};
 ghost use Rattle.printing.specs.Clauses.{Room, gap_before};
@@ -23,7 +23,7 @@ pub fn put_bytes(out: &mut [u8], at: usize, s: &[u8]) -> usize
 }
 
 // A number in base ten.
-// stays: a formatter over a lent buffer would be longer than these lines.
+// stays: a formatter over a lent buffer would be longer than these lines
 pub fn put_decimal(out: &mut [u8], at: usize, x: u64) -> usize
     requires { Room out.old at (decimal x) }
     ensures { Wrote out.old at (decimal x) out.new result }

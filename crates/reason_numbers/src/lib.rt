@@ -14,6 +14,7 @@ use reasons::{Direction, Entry, reason};
 use refusals::Refusal;
 
 // The number of a direction.
+// stays: numbers, for the C interface
 fn direction_number(direction: Direction) -> u32
     ensures { result ≡ direction_number direction }
 {

@@ -17,6 +17,7 @@ fn taken_numbers(plan: &LaidOut, bits: &[u8]) -> [u32; 170]
 {
     let mut taken = [0u32; 170];
     let mut at = 0;
+    // stays: k is the number of the array that is asked for
     for k in 0..plan.sizes.arrays {
         let w = plan.weight(k) as usize;
         taken[k] = bits_set(bits, at, w);

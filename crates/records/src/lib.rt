@@ -9,7 +9,7 @@ pub mod fit;
 mod tally;
 
 // The part of a campaign record that is no buffer: the count of numbers taken, and the rounds completed.
-// stays: bits and tally are slices beside it, as C hands them (`lufodimi_start`, `lufodimi_campaign_draw`).
+// stays: bits and tally are slices beside it, as C hands them (`lufodimi_start`, `lufodimi_campaign_draw`)
 #[repr(C)]
 #[derive(Clone, Copy, Debug, PartialEq, Eq)]
 pub struct Record {

@@ -81,6 +81,7 @@ pub fn lower(x: Refusal, y: Refusal) -> Refusal
 }
 
 // The number of an answer: 0 where there is no refusal.
+// stays: a number, for the C interface
 pub fn answer_number<T: Drop>(a: Result<T, Refusal>) -> u32
     ensures { result ≡ answer_number a }
 {

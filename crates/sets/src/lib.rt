@@ -14,7 +14,7 @@ pub fn single(i: usize) -> u32
 }
 
 // 1 where i is a member, else 0.
-// stays: a number and no bool, since line_sums::bit_of adds two of them.
+// stays: a number and no bool, since line_sums::bit_of adds two of them
 pub fn member(x: u32, i: usize) -> u32
     requires { i < 13 }
     ensures { result ≡ on x i }

@@ -6,6 +6,7 @@ ghost use Rattle.table.specs.Clauses.{Dividable, Divides};
 pub struct Divided {
     pub whole: u64,
     pub rest: u64,
+    // stays: a number, since it is added
     pub gap: u8,
 }
 

@@ -102,6 +102,7 @@ pub fn next(
 }
 
 // The number of an answer of the second call.
+// stays: a number, for the C interface
 pub fn step_number(s: Result<Step, Refusal>) -> u32
     ensures { result ≡ step_number s }
 {

@@ -67,7 +67,7 @@ fn cells_at(cells: &[u32], at: usize, plan: &mut [u8])
 }
 
 // Puts counts of arrays from a place on.
-// stays: one function for cells and counts takes a const width and a closure that gives the bytes of a number, and is longer than these two loops.
+// stays: one function for cells and counts takes a const width and a closure that gives the bytes of a number, and is longer than these two loops
 fn counts_at(counts: &[u16], at: usize, plan: &mut [u8])
     requires { at + 2 * length counts.now ≤ length plan.old }
     ensures { plan.new ≡ put_at plan.old at (numbers 2 (length counts.now) counts.now) }
