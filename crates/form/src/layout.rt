@@ -92,6 +92,7 @@ fn head_right(plan: &[u8]) -> bool
 }
 
 // Whether each entry of the contents points to its body.
+// stays: bytes with sizes, since this tests what a `LaidOut` says
 fn offsets_right(plan: &[u8], s: Sizes) -> bool
     requires { Contents s.rows s.columns s.arrays plan.now }
     ensures { result ≡ offsets_right plan.now s.rows s.columns s.arrays }

@@ -31,6 +31,7 @@ pub struct Found {
 
 // Goes from row `start` to columns that can be raised, from these to rows that can be lowered, and so on, until a column of `ends` is reached:
 // that column and its level, or none. Keeps the rows and the columns of each level.
+// stays: both halves and no `FreePlaces`, since it asks nothing of them (`SearchReady`)
 pub fn reach(
     up: &[u32; 13],
     down: &[u32; 13],
