@@ -21,7 +21,7 @@ fn flip(a: i64) -> i64
 }
 
 // Divides an entry of either sign by a weight. Below zero -1 - entry is divided: its quotient, flipped back, is the entry's rounded down.
-// stays: std's div_euclid and rem_euclid take a weight of 64 bits only in 128, which takes nearly twice as long, and a plan divides up to 29,000 times
+// stays: std's div_euclid and rem_euclid take a weight of 64 bits only in 128, which takes nearly twice as long: of 29,000 divisions a plan, planning would miss its 0.18 of the straightforward program
 pub fn divide(entry: i64, weight: u64) -> Divided
     requires { 0 < weight }
     ensures { Divides weight entry result }

@@ -19,7 +19,7 @@ pub fn quotients(
     requires { QuotientsReady w e.now low.old high.old cap.old }
     ensures { Quotients w e.now low.new high.new cap.new }
 {
-    // stays: with `iter_mut().enumerate()` the other arrays would be read by the same number
+    // stays: three arrays are written by one number
     for k in 0..169 {
         let d = divide(e[k], w);
         low[k] = d.whole;
@@ -53,9 +53,8 @@ pub fn counts(low: &[u64; 169], high: &[u64; 169], bits: &[u8; 169], n: &mut [u6
     requires { CountsReady low.now high.now bits.now n.old }
     ensures { n.new ≡ tabulate 169 (count_at low.now high.now bits.now) }
 {
-    // stays: with `iter_mut().enumerate()` the other arrays would be read by the same number
-    for k in 0..169 {
-        n[k] = count(low[k], bits[k]);
+    for (k, x) in n.iter_mut().enumerate() {
+        *x = count(low[k], bits[k]);
     }
     let rows = Line {
         start: 12,

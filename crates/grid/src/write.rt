@@ -8,9 +8,8 @@ fn write_row(n: &[u64; 169], first: usize, columns: usize, counts: &mut [u16], a
     requires { RowReady n.now first columns (length counts.old) at }
     ensures { Filled (λ j. get_or n.now (first + j) 0) at counts.old counts.new columns }
 {
-    // stays: with `iter_mut().enumerate()` the other side would be read by the same number
-    for j in 0..columns {
-        counts[at + j] = n[first + j] as u16;
+    for (j, x) in n[first..first + columns].iter().enumerate() {
+        counts[at + j] = *x as u16;
     }
 }
 

@@ -22,6 +22,8 @@ pub struct Lines {
 }
 
 impl Lines {
+    // stays: four kinds, each with numbers of its own
+
     // The cells, each the sum over one place.
     fn cells(cells: usize) -> Lines
         ensures { result ≡ cell_lines cells }
@@ -80,7 +82,7 @@ pub struct EntryBounds {
 
 impl EntryBounds {
     // The entries of a table, over the denominator rounded down and up.
-    // stays: `opening` has cells that are not yet known to be an accepted table's, so an `Accepted` would ask more
+    // stays: `opening` would make an `Accepted` for this one call, and prove the same facts for it again
     pub fn of(cells: &[u32], rows: usize, columns: usize, denominator: u64) -> EntryBounds
         requires { BoundsReady rows columns denominator cells.now }
         ensures { Bounds (entry_places rows columns) denominator cells.now result.low result.high }

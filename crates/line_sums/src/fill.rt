@@ -54,6 +54,7 @@ pub fn fill(free: &mut FreePlaces, lack: &mut Lack, more: &[u8; 13])
     requires { FillReady free.old lack.old.left more.now }
     ensures { FilledBy free.old lack.old.left free.new lack.new.left (λ p. get_or more.now p 0) }
 {
+    // stays: the rows go by their numbers, from the last to the first
     for row in (0..13).rev() {
         fill_row(free, lack, row, more[row]);
     }

@@ -20,7 +20,7 @@ pub fn free_places(cap: &[u8; 169]) -> [u32; 13]
     ensures { FreeOf cap.now result }
 {
     let mut up = [0; 13];
-    // stays: what `nonzero` gives is said by a relation, and the law on `from_fn` is one on functions
+    // stays: no plainer with `from_fn`, which would want one law more, for what is said by a relation
     for p in 0..13 {
         up[p] = nonzero(cap, p * 13);
     }

@@ -84,7 +84,7 @@ fn places(rows: usize, columns: usize) -> [usize; 16]
     ensures { Places rows columns result }
 {
     let mut places = [0usize; 16];
-    // stays: with `iter_mut().enumerate()` a place would be computed from the same number
+    // stays: with `iter_mut().enumerate()` over a part of the array the proof did not close
     for i in 0..rows * columns {
         places[i] = nth_row(rows, columns, i) * columns + nth_column(rows, columns, i);
     }

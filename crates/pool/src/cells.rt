@@ -33,8 +33,7 @@ pub fn write_pooled(s: Scale, first: &[u32], second: &[u32], cells: &mut [u32])
     requires { Writable s first.now second.now cells.old }
     ensures { cells.new ≡ written (scaled_cells s.first s.second first.now second.now) cells.old }
 {
-    // stays: with `iter_mut().enumerate()` the other side would be read by the same number
-    for i in 0..first.len() {
-        cells[i] = pooled_cell(s, first[i], second[i]) as u32;
+    for (i, x) in first.iter().enumerate() {
+        cells[i] = pooled_cell(s, *x, second[i]) as u32;
     }
 }
