@@ -35,6 +35,6 @@ returns-then-write_next c =
 
 pub returns : goal.returns
 returns c =
-    let nothing = next_enough _ _ _ _ c.in_ok-t.ensures.1 _ (rw c.in_ok-t.ensures.0 at c.is_rounding.ensures) c.if-not-is_rounding.false _ (rw c.in_ok-t.ensures.0 at c.if-counts-t.false) in
+    let free = next_enough _ _ _ _ c.in_ok-t.ensures.1 _ (rw c.in_ok-t.ensures.0 at c.is_rounding.ensures) c.if-not-is_rounding.false _ (rw c.in_ok-t.ensures.0 at c.if-counts-t.false) in
     let found = found_so _ _ _ _ c.in_ok-t.ensures.1 _ (rw c.in_ok-t.ensures.0 at c.write_next.ensures) in
-    record { answer = last_so _ _ _ _ _ _ nothing found c.if-write_next.false; buffer = found_left _ _ _ _ _ _ nothing found }
+    record { answer = last_so _ _ _ _ _ _ free found c.if-write_next.false; buffer = found_left _ _ _ _ _ _ free found }
