@@ -1,9 +1,10 @@
--- The bytes of a number: how many they are, and where the number is read back. Assumes nothing.
-use mathlib.Core.Path.{◌≡◌, refl, ap, ◌∙◌}
-use mathlib.Core.List.{List, [], ◌∷◌}
-use Prim.Native.Nat.{ℕ, zero, suc, ◌*◌, ◌/◌, ◌%◌, ◌^◌, ◌<◌}
-use native.Mathlib.Nat.{add-zero, mul_comm, pow-suc, div-lt_iff_lt-mul}
+-- The bytes of a number: how many they are, how they split, and where the number is read back. Assumes nothing.
+use mathlib.Core.Path.{◌≡◌, refl, sym, ap, ◌∙◌}
+use mathlib.Core.List.{List, [], ◌∷◌, ◌++◌}
+use Prim.Native.Nat.{ℕ, zero, suc, ◌+◌, ◌*◌, ◌/◌, ◌%◌, ◌^◌, ◌<◌}
+use native.Mathlib.Nat.{add-zero, zero-add, suc-add, mul_comm, pow-zero, pow-suc, pow-succ', one-le-pow, div-one, div-div-eq-div-mul, div-lt_iff_lt-mul}
 use native.Mathlib.Omega.{arith}
+use lib.Arith.{mod-mul, digits_div}
 use lib.ListN.{length, get_or}
 use Rattle.base.specs.Lists.{join_to}
 use Rattle.base.proofs.Joins.{length_join, Holds, holds_right}
@@ -13,6 +14,18 @@ pub length_bytes : (n x : ℕ) → length (bytes n x) ≡ n
 unfolding bytes
 length_bytes zero x = refl
 length_bytes (suc n) x = ap suc (length_bytes n (x / 256))
+
+-- the low m bytes of a number, and the n above them
+pub bytes_split : (m n x : ℕ) → bytes m (x % 256 ^ m) ++ bytes n (x / 256 ^ m) ≡ bytes (m + n) x
+unfolding bytes
+bytes_split zero n x = simp (pow-zero, div-one, zero-add)
+bytes_split (suc m) n x =
+    let some : 0 < 256 ^ m = one-le-pow m 256 (omega arith) in
+    let low : x % 256 ^ suc m ≡ x / 256 % 256 ^ m * 256 + x % 256 = rw (pow-suc 256 m) (mod-mul x some (omega arith)) in
+    let byte : x % 256 ^ suc m % 256 ≡ x % 256 = omega (arith, low) in
+    let above : x % 256 ^ suc m / 256 ≡ x / 256 % 256 ^ m = ap (λ (y : ℕ). y / 256) low ∙ digits_div (x / 256 % 256 ^ m) (omega arith) in
+    let high : x / 256 ^ suc m ≡ x / 256 / 256 ^ m = rw (pow-succ' 256 m) (sym (div-div-eq-div-mul x 256 (256 ^ m))) in
+    rw (suc-add m n, byte, above, high) (ap (λ l. x % 256 ∷ l) (bytes_split m n (x / 256)))
 
 -- a number that fits its bytes is read where they stand
 pub number_held : (n : ℕ) {b : List ℕ} {at x : ℕ} → Holds b at (bytes n x) → x < 256 ^ n → number n b at ≡ x

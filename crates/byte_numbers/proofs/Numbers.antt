@@ -1,13 +1,22 @@
 -- Laws on numbers in bytes, low byte first. Assumes nothing.
 use mathlib.Core.Path.{◌≡◌, refl, ap, ◌∙◌}
 use mathlib.Core.List.{List, [], ◌∷◌}
-use Prim.Native.Nat.{ℕ, zero, suc, ◌+◌, ◌-◌, ◌<◌, ◌≤◌}
-use native.Mathlib.Nat.{add_assoc}
+use Prim.Native.Nat.{ℕ, zero, suc, ◌+◌, ◌*◌, ◌-◌, ◌^◌, ◌<◌, ◌≤◌}
+use native.Mathlib.Nat.{add-zero, zero-add, suc-add, one-mul, add_assoc, mul_assoc, pow-zero, pow-succ'}
 use native.Mathlib.Omega.{arith}
 use lib.ListN.{length, get_or, take, drop, length-drop}
 use lib.Seq.{get_or-drop, take_all}
 use Rattle.std.specs.Int.{w16, w32, from_le_bytes}
 use Rattle.byte_numbers.specs.Bytes.{number}
+
+-- a number of m + n bytes is one of m bytes and one of n bytes after it
+pub number_split : (m n : ℕ) (s : List ℕ) (at : ℕ) → number (m + n) s at ≡ number m s at + 256 ^ m * number n s (at + m)
+unfolding number
+number_split zero n s at = simp (zero-add, add-zero, pow-zero, one-mul)
+number_split (suc m) n s at =
+    let i : number n s (at + 1 + m) ≡ number n s (at + suc m) = ap (number n s) (omega arith) in
+    let p : 256 * 256 ^ m * number n s (at + suc m) ≡ 256 * (256 ^ m * number n s (at + suc m)) = mul_assoc 256 (256 ^ m) _ in
+    rw (suc-add m n, pow-succ' 256 m) (omega (arith, number_split m n s (at + 1), ap (λ (x : ℕ). 256 ^ m * x) i))
 
 -- std's number of two bytes, and of four
 pub number_two : (s : List ℕ) (at : ℕ) → from_le_bytes w16 (get_or s at 0 ∷ get_or s (at + 1) 0 ∷ []) ≡ number 2 s at

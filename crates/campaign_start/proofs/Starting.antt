@@ -17,10 +17,10 @@ use Rattle.refusals.specs.Due.{Test, refuse, due}
 use Rattle.refusals.proofs.Dues.{due_first, due_second, not_here, not_later, refused_so, accepted_so}
 use Rattle.form.specs.declared.Sizes.{Sizes}
 use Rattle.form.specs.Form.{decode}
-use Rattle.opening.specs.Open.{open_tests, open_refusal, open_answer}
+use Rattle.opening.specs.Open.{open_tests, open_refusal, Opens, open_answer}
 use Rattle.reading.specs.Clauses.{Sized}
 use Rattle.reading.proofs.Sizing.{cells_are, denominator_is}
-use Rattle.opening.proofs.Opening.{opened_sized, is_open, is_refused}
+use Rattle.opening.proofs.Opening.{opened_sized, is_open, is_refused, opens_by}
 use Rattle.records.specs.Record.{CampaignRecord, record_of, room_for}
 use Rattle.bits.specs.Bits.{bit_bytes}
 use Rattle.campaign_start.specs.Start.{start_tests, start_refusal, cleared, started, Starts}
@@ -69,6 +69,9 @@ module _ (b : List ℕ) (s : CampaignRecord) where
 
 -- what is known where nothing is due of a start, nor of what may apply after it
 module _ (b : List ℕ) (s : CampaignRecord) (l : List Test) (h : due (start_tests b s ++ l) ≡ None) where
+  pub opened_first : Opens b
+  opened_first = opens_by b (not-false _ (not_here _ _ h)) (not-false _ (not_here _ _ (not_later _ _ h)))
+
   room_first : room_for (decode b) s ≡ true
   room_first = not-false _ (not_here _ _ (not_later _ _ (not_later _ _ h)))
 

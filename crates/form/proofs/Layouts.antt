@@ -1,9 +1,10 @@
 -- Where bodies begin, and what the tests of a layout say on each way through them. Assumes nothing.
-use mathlib.Core.Path.{◌≡◌, sym, ◌∙◌}
+use mathlib.Core.Path.{◌≡◌, sym, ap, ◌∙◌}
 use mathlib.Core.Bool.{Bool, true, false, not, ◌&&◌, and-false}
 use mathlib.Core.List.{List}
-use Prim.Native.Nat.{ℕ, zero, suc, ◌*◌, ◌^◌, ◌<◌, ◌≤◌}
+use Prim.Native.Nat.{ℕ, zero, suc, ◌+◌, ◌*◌, ◌^◌, ◌<◌, ◌≤◌}
 use native.Mathlib.Nat.{mul-le-mul, mul-le-mul_right, one-le-mul}
+use native.Mathlib.Numerals.{add-one}
 use native.Mathlib.Omega.{arith}
 use lib.ListN.{length}
 use Rattle.std.specs.Bool.{MatchBool}
@@ -22,6 +23,10 @@ use Rattle.table.proofs.Checks.{up_to_low, up_to_high}
 use Rattle.form.specs.declared.Sizes.{Sizes}
 use Rattle.form.specs.Form.{body_at, plan_length, min_length, max_length, form_of, rows_of, columns_of, arrays_of, zero_of, denominator_of, sizes_of, length_of, start_right, head_right, laid_out}
 use Rattle.form.specs.Clauses.{Bounded, Contents, offsets_right, Laid}
+
+-- the body after the last begins where the plan ends
+pub body_end : (r c k : ℕ) → body_at r c k (k + 1) ≡ plan_length r c k
+body_end r c k = ap (body_at r c k) (add-one k)
 
 -- a plan has at least 30 bytes and at most 50,912
 pub plan_least : {r c k : ℕ} → 1 ≤ r → 1 ≤ c → 1 ≤ k → min_length ≤ plan_length r c k

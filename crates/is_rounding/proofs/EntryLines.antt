@@ -3,7 +3,7 @@ use mathlib.Core.Path.{◌≡◌, refl, sym, ap, ◌∙◌}
 use mathlib.Core.Bool.{Bool, true, false, not, cond, ◌&&◌}
 use mathlib.Core.List.{List, []}
 use Prim.Native.Nat.{ℕ, ◌+◌, ◌*◌, ◌<◌, ◌≤◌}
-use native.Mathlib.Nat.{zero-add, add-zero, mul-one, mul-le-mul_right, le_trans, div-le_of_le-mul}
+use native.Mathlib.Nat.{zero-add, add-zero, mul-one, mul-le-mul, mul-le-mul_right, le_trans, div-le_of_le-mul}
 use native.Mathlib.Omega.{arith}
 use lib.ListN.{length, get_or}
 use lib.Dec.{eqb}
@@ -16,9 +16,10 @@ use Rattle.base.proofs.Every.{sum_none, every_add, every_ext, every_intro}
 use Rattle.base.proofs.Filling.{filled_none, filled_join}
 use Rattle.table.specs.Table.{total, entry_places}
 use Rattle.table.specs.Whole.{down, gap, up}
-use Rattle.table.specs.Clauses.{Dividable, Divides}
+use Rattle.table.specs.Clauses.{Dividable, Divides, Shape}
 use Rattle.table.specs.declared.whole.Divided.{Divided}
 use Rattle.table.proofs.EntryPlaces.{entries_length, cell_at, row_at, column_at, grand_at}
+use Rattle.table.proofs.Totals.{reach_row, reach_column, reach_one, reach_all}
 use Rattle.table.proofs.EntryBounds.{total_at_most}
 use Rattle.table.proofs.Roundings.{gap_le}
 use Rattle.is_rounding.specs.declared.Lines.{Lines}
@@ -40,6 +41,43 @@ module _ (r c : ℕ) where
 
   pub stands_grand : Stands (entry_places r c) (grand_lines (r * c)) (r * c + r + c)
   stands_grand = record { at = λ l h. let z : l ≡ 0 = omega arith in rw (z, add-zero (r * c + r + c)) (grand_at r c) }
+
+-- each kind lies among the cells
+module _ {r c : ℕ} {g : List ℕ} (s : Shape r c g) where
+  few : r * c ≤ 144
+  few = mul-le-mul s.rows s.columns
+
+  pub placed_cells : Placed (cell_lines (r * c)) 0 (length g)
+  placed_cells = record {
+    few = few;
+    stride_small = omega arith;
+    room = omega (arith, few);
+    reach = λ l h. rw (mul-one l) (reach_one s l h);
+  }
+
+  pub placed_rows : Placed (row_lines r c) (r * c) (length g)
+  placed_rows = record {
+    few = omega (arith, s.rows);
+    stride_small = s.columns;
+    room = omega (arith, few, s.rows);
+    reach = reach_row s;
+  }
+
+  pub placed_columns : Placed (column_lines r c) (r * c + r) (length g)
+  placed_columns = record {
+    few = omega (arith, s.columns);
+    stride_small = omega arith;
+    room = omega (arith, few, s.rows, s.columns);
+    reach = λ l h. rw (mul-one l) (reach_column s l h);
+  }
+
+  pub placed_grand : Placed (grand_lines (r * c)) (r * c + r + c) (length g)
+  placed_grand = record {
+    few = omega arith;
+    stride_small = omega arith;
+    room = omega (arith, few, s.rows, s.columns);
+    reach = λ l h. let z : l ≡ 0 = omega arith in rw z (reach_all s);
+  }
 
 -- an entry of the table over d
 module _ {k : Lines} {from l d : ℕ} {g : List ℕ} (p : Placed k from (length g)) (t : Cells d g) (h : l < k.count) where

@@ -2,8 +2,10 @@
 use mathlib.Core.Path.{◌≡◌, sym, ◌∙◌}
 use mathlib.Core.Bool.{Bool, false}
 use mathlib.Core.List.{List, []}
-use Prim.Native.Nat.{ℕ, ◌*◌}
-use lib.ListN.{length, get_or}
+use Prim.Native.Nat.{ℕ, ◌*◌, ◌<◌, ◌≤◌}
+use native.Mathlib.Decide.{dec_lt}
+use native.Mathlib.Omega.{arith}
+use lib.ListN.{length, get_or, get_or-eq_default}
 use borrow.Author.Tests.{eq-eqb, ne_eqb}
 use Rattle.base.specs.Lists.{all}
 use Rattle.base.proofs.Every.{every_ext, every_place}
@@ -12,7 +14,7 @@ use Rattle.table.specs.Whole.{rounds_to}
 use Rattle.table.specs.Clauses.{IsTable}
 use Rattle.table.proofs.Roundings.{rounds_between}
 use Rattle.is_rounding.specs.Rounding.{two_ways, is_rounding}
-use Rattle.is_rounding.specs.Clauses.{Bounds, entries_between}
+use Rattle.is_rounding.specs.Clauses.{Cells, Bounds, entries_between}
 
 -- each entry lies between the bounds just if it is the table's, rounded down or up
 pub between_rounds : {entries : List (List ℕ)} {d : ℕ} {g low high : List ℕ} → Bounds entries d g low high → (n : List ℕ)
@@ -25,6 +27,13 @@ between_rounds {entries} {d} {g} b n =
 
 -- an accepted table
 module _ {r c d : ℕ} {g : List ℕ} (t : IsTable r c d g) where
+  pub table_cells : Cells d g
+  table_cells = record { some = t.some_denominator; denominator = t.denominator; within = λ i. small i (dec_lt i (length g)) }
+    where
+      small : (i : ℕ) → Dec (i < length g) → get_or g i 0 ≤ 1000 * d
+      small i (yes l) = t.within i l
+      small i (no l) = omega (arith, get_or-eq_default g 0 {n = i} (omega arith))
+
   module _ (n : List ℕ) where
     pub other_length : (length n ≡ length g → ⊥) → false ≡ is_rounding (two_ways r c) d g n
     unfolding is_rounding

@@ -62,6 +62,10 @@ which x p y q = go (ℕ_discrete x p) (ℕ_discrete y q)
     go (yes e) (no n) = other (place_other_col x p y q n)
     go (no n) d = other (place_other_row x p y q n)
 
+-- places are free and 0 or free and 1, and not both
+pub apart_places : {up down one : List ℕ} → Places up down one → NotBoth up down
+apart_places m = record { up_len = m.up_len; down_len = m.down_len; one = λ p q hp hq. omega (arith, m.single p q hp hq) }
+
 -- with no place fixed at 1
 pub places_free : {up down : List ℕ} → NotBoth up down → Places up down (replicate 13 0)
 places_free {up} {down} m = record {
@@ -91,6 +95,19 @@ module _ {up down one up' down' : List ℕ} {row column : ℕ} (m : Places up do
   col_more q = omega (arith, col_split up down one q, col_split up' down' one q, v.in_col q)
 
 module _ {up down one : List ℕ} {i j : ℕ} (m : Places up down one) (hi : i < 13) (hj : j < 13) where
+  -- a place that is fixed
+  pub fix_none : {u d : ℕ} → u ≡ has up i j → (u ≡ 1 → ⊥) → d ≡ has down j i → (d ≡ 1 → ⊥) → Fixed (board_of up down one) (board_of up down one) i j
+  fix_none eu nu ed nd =
+      let z : has up i j + has down j i ≡ 0 = omega (arith, m.single i j hi hj) in record {
+        rows = λ p. refl;
+        cols = λ q. refl;
+        here = z;
+        others = λ p q hp hq n. refl;
+        fewer = λ p q. omega arith;
+        kept = λ p q hp hq n. refl;
+        least = λ x f. omega (arith, f.fixed i j hi hj z);
+      }
+
   -- a place that is free and 0
   module _ {r : ℕ} (e : has up i j ≡ 1) (w : Without (get_or up i 0) j r) where
     is_up : (x y : ℕ) → has (set up i r) x y + same_place x i y j ≡ has up x y

@@ -9,15 +9,20 @@ use native.Mathlib.Decide.{dec_lt}
 use native.Mathlib.Numerals.{add-one}
 use native.Mathlib.Omega.{arith}
 use borrow.Author.Count.{below_more}
-use borrow.Author.Tests.{le-leb, lt-leb, ne_eqb}
+use borrow.Author.Tests.{le-leb, lt-leb, leb-true, ne_eqb}
 use lib.ListN.{length, get_or, set, drop, replicate, length-append, drop_of_length-le}
 use lib.Seq.{drop-cons, get_or-append_seam, set-append_seam}
+use lib.Dec.{leb}
 use Rattle.std.specs.Int.{from_bool}
 use Rattle.base.specs.Lists.{all}
 use Rattle.base.proofs.Lists.{and_left, and_both, all_intro, all_fails, all_append}
 use Rattle.parsing.specs.Text.{is_digit, is_gap, is_text, is_number, numbers_from, parse}
 use Rattle.parsing.specs.declared.Numbers.{Numbers}
 use Rattle.parsing.specs.Clauses.{padded, parsed_of}
+
+-- 48 is the least digit
+pub digit_least : (x : ℕ) → is_digit x ≡ true → 48 ≤ x
+digit_least x h = leb-true 48 x (and_left (leb 48 x) (leb x 57) h)
 
 -- the tests of a byte
 module _ (x : ℕ) where

@@ -32,6 +32,10 @@ pub record Progress (up down : List ℕ) (ends start : ℕ) (rows cols : List �
   pub full : (q : ℕ) → q < 13 → on ends q ≤ on cols_left q
   pub count : k + sum_to 13 (λ q. on cols_left q) ≤ 13
 
+-- a meet has no more than its second
+pub meet_sub : {a b r : ℕ} → Meet a b r → (j : ℕ) → on r j ≤ on b j
+meet_sub m j = omega (arith, m.is j)
+
 -- the members of a set of one
 pub one_le : {start front : ℕ} → start < 13 → Single start front → (j : ℕ) → on front j ≤ on 8191 j
 one_le {start} {front} h o j = go (ℕ_discrete j start)

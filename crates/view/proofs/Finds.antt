@@ -3,11 +3,14 @@ use Rattle.std.specs.Prelude.{Some, None}
 use mathlib.Core.Path.{◌≡◌, sym}
 use mathlib.Core.Bool.{true, false, and-false}
 use mathlib.Core.List.{List}
-use Prim.Native.Nat.{ℕ, ◌+◌, ◌*◌, ◌<◌, ◌≤◌}
-use lib.ListN.{length}
+use Prim.Native.Nat.{ℕ, ◌+◌, ◌*◌, ◌-◌, ◌<◌, ◌≤◌}
+use native.Mathlib.Omega.{arith}
+use lib.ListN.{length, take, drop}
 use borrow.Author.Tests.{lt-leb, le-leb, lt-ltb, le-ltb}
+use Rattle.byte_numbers.specs.Bytes.{number}
 use Rattle.form.specs.Form.{amount_of, offset_of, count_of}
 use Rattle.view.specs.Find.{has_entry, found_weight, found_count}
+use Rattle.byte_numbers.proofs.Numbers.{part_number_lem}
 
 module _ (b : List ℕ) (k : ℕ) where
   there : k ≤ 170 → 16 + 8 * k ≤ length b → has_entry b k ≡ true
@@ -38,3 +41,9 @@ module _ (b : List ℕ) (k : ℕ) where
 
     pub count_there : k ≤ 170 → 16 + 8 * k ≤ length b → i < 144 → offset_of b k + 2 * i + 2 ≤ length b → (x : ℕ) → x ≡ count_of b k i → Some x ≡ found_count b k i
     count_there h l = count_stands (sym (there h l))
+
+    -- a count that is read in the body that an offset points to
+    module _ {at : ℕ} (a : at ≡ offset_of b k) where
+      pub count_found_lem : k ≤ 170 → 16 + 8 * k ≤ length b → i < 144 → at ≤ length b - (2 * i + 2) → 2 * i + 2 ≤ length b
+          → (x : ℕ) → x ≡ number 2 (take (length b - at) (drop at b)) (2 * i) → Some x ≡ found_count b k i
+      count_found_lem h l m n o x e = count_there h l m (omega arith) x (part_number_lem b at (offset_of b k) a 2 (2 * i) x e)
