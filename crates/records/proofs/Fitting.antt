@@ -1,7 +1,7 @@
 -- Laws on the test of a record: the numbers taken of each array, the count and the tally by them, and where a campaign can stand. Assumes nothing.
 use Rattle.std.specs.Prelude.{Ok}
 use mathlib.Core.Path.{◌≡◌, refl, sym, ap, ◌∙◌}
-use mathlib.Core.Bool.{◌&&◌}
+use mathlib.Core.Bool.{false, ◌&&◌}
 use mathlib.Core.List.{List, []}
 use Prim.Native.Nat.{ℕ, zero, suc, ◌+◌, ◌-◌, ◌*◌, ◌<◌, ◌≤◌}
 use native.Mathlib.Nat.{mul_comm}
@@ -171,6 +171,11 @@ module _ {s : Sizes} (b : List ℕ) {bits tally : List ℕ} (o : open_answer b �
     few = omega (arith, weights, sized_denominator sized);
     room = omega (arith, weights, f.bits_room);
   }
+
+  -- a spare bit that is set
+  pub spare_set : (n rounds : ℕ) → spare_clear s.denominator bits ≡ false → false ≡ fits (decode b) (record_of n rounds bits tally)
+  unfolding fits
+  spare_set n rounds h = sym (rw (denominator_is sized, h) refl)
 
   -- with the numbers taken of each array
   module _ {taken : List ℕ} (t : taken ≡ taken_numbers (decode b).arrays bits) where

@@ -40,9 +40,11 @@ pub fn fits(plan: &OpenPlan, record: Record, bits: &[u8], tally: &[u64]) -> bool
     ensures { result ≡ fits (decode plan.now.plan.bytes.now) (record_of «record».taken «record».rounds bits.now tally.now) }
 {
     let s = plan.plan.sizes;
+    if !spare_clear(bits, s.denominator as usize) {
+        return false;
+    }
     let numbers = taken_numbers(&plan.plan, bits);
-    spare_clear(bits, s.denominator as usize)
-        && all_taken(&numbers[..s.arrays]) == record.taken
+    all_taken(&numbers[..s.arrays]) == record.taken
         && record.within(s.denominator)
         && tally_fits(&plan.plan, record.rounds, &numbers, tally)
 }

@@ -1,7 +1,7 @@
 use native.Mathlib.Omega.{arith}
 use borrow.Author.Rules.{rules}
 use Rattle.std.proofs.lemmas.Bool.Decides.{nat_tests}
-use Rattle.records.proofs.Fitting.{spared, numbered, numbers_room, numbers_part, few_taken, fits_by}
+use Rattle.records.proofs.Fitting.{spared, numbered, numbers_room, numbers_part, few_taken, spare_set, fits_by}
 use Rattle.records.proofs.fit.fits.Goals as goal
 
 pub taken_numbers-numbers-requires : goal.taken_numbers-numbers-requires
@@ -9,6 +9,9 @@ taken_numbers-numbers-requires c = search (rules, numbered)
 
 pub spare_clear-requires : goal.spare_clear-requires
 spare_clear-requires c = search (rules, spared)
+
+pub returns-then-not-spare_clear : goal.returns-then-not-spare_clear
+returns-then-not-spare_clear c = search (rules, spare_set)
 
 pub slice_bounds-numbers-end : goal.slice_bounds-numbers-end
 slice_bounds-numbers-end c = search (rules, numbers_room)
