@@ -87,16 +87,24 @@ impl EntryBounds {
         requires { BoundsReady rows columns denominator cells.now }
         ensures { Bounds (entry_places rows columns) denominator cells.now result.low result.high }
     {
-        let n = rows * columns;
         let mut bounds = EntryBounds {
             low: [0; 169],
             high: [0; 169],
         };
-        bounds.add_lines(cells, Lines::cells(n), 0, denominator);
-        bounds.add_lines(cells, Lines::rows(rows, columns), n, denominator);
-        bounds.add_lines(cells, Lines::columns(rows, columns), n + rows, denominator);
-        bounds.add_lines(cells, Lines::grand(n), n + rows + columns, denominator);
+        bounds.fill(cells, rows, columns, denominator);
         bounds
+    }
+
+    // The same, in a place that the caller has: what is returned is copied, which a small plan's opening would spend a third of its time on.
+    pub fn fill(&mut self, cells: &[u32], rows: usize, columns: usize, denominator: u64)
+        requires { BoundsReady rows columns denominator cells.now }
+        ensures { Bounds (entry_places rows columns) denominator cells.now self.new.low self.new.high }
+    {
+        let n = rows * columns;
+        self.add_lines(cells, Lines::cells(n), 0, denominator);
+        self.add_lines(cells, Lines::rows(rows, columns), n, denominator);
+        self.add_lines(cells, Lines::columns(rows, columns), n + rows, denominator);
+        self.add_lines(cells, Lines::grand(n), n + rows + columns, denominator);
     }
 
     // The entries of one kind of the table, over the denominator rounded down and up, from a place on.

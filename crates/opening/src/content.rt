@@ -56,7 +56,11 @@ fn arrays_right(plan: &LaidOut, cells: &[u32]) -> bool
     ensures { result ≡ arrays_right (decode plan.now.bytes.now) }
 {
     let s = plan.sizes;
-    let bounds = EntryBounds::of(cells, s.rows, s.columns, u64::from(s.denominator));
+    let mut bounds = EntryBounds {
+        low: [0; 169],
+        high: [0; 169],
+    };
+    bounds.fill(cells, s.rows, s.columns, u64::from(s.denominator));
     let mut sums = [0u64; 144];
     arrays_held(plan, &bounds, &mut sums) && cells_met(cells, &sums)
 }

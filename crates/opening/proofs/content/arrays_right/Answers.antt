@@ -2,11 +2,11 @@ use Rattle.opening.proofs.ContentTests.{table_shape, table_arrays, table_few, ar
 use borrow.Author.Rules.{rules}
 use Rattle.opening.proofs.content.arrays_right.Goals as goal
 
-pub of-bounds-requires : goal.of-bounds-requires
-of-bounds-requires c = record { shape = table_shape c.args.plan.now.laid_out c.requires; cells_are = rw c.from.ensures c.requires.cells_are }
+pub fill-requires : goal.fill-requires
+fill-requires c = record { shape = table_shape c.args.plan.now.laid_out c.requires; cells_are = rw c.from.ensures c.requires.cells_are }
 
 pub arrays_held-requires : goal.arrays_held-requires
-arrays_held-requires c = table_arrays c.args.plan.now.laid_out c.requires (rw c.from.ensures at c.of-bounds.ensures)
+arrays_held-requires c = table_arrays c.args.plan.now.laid_out c.requires (rw c.from.ensures at c.fill.ensures)
 
 pub cells_met-requires : goal.cells_met-requires
 cells_met-requires c = search (rules, table_few)

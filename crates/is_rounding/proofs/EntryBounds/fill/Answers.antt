@@ -1,7 +1,7 @@
-use mathlib.Core.Path.{refl}
+use borrow.Author.Rules.{rules}
 use Rattle.table.proofs.EntryPlaces.{entries_length}
 use Rattle.is_rounding.proofs.EntryLines.{stands_rows, stands_columns, stands_grand, kind_bounds, cells_bounds, bounds_of}
-use Rattle.is_rounding.proofs.EntryBounds.of.Goals as goal
+use Rattle.is_rounding.proofs.EntryBounds.fill.Goals as goal
 
 pub returns : goal.returns
 returns c =
@@ -12,4 +12,4 @@ returns c =
     (stands_rows _ _) (rw c.rows.ensures at c.add_lines-2.ensures))
     (stands_columns _ _) (rw c.columns.ensures at c.add_lines-3.ensures))
     (stands_grand _ _) (rw c.grand.ensures at c.add_lines-4.ensures))
-    (record { low_length = refl; high_length = refl }) (entries_length _ _)
+    (record { low_length = search rules; high_length = search rules }) (entries_length _ _)
