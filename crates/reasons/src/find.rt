@@ -43,15 +43,14 @@ fn direction(w: u64, x: u64, entry: u64, count: u64) -> Direction
     }
 }
 
-// The reason of the next array of what is left of a table.
-fn reason_of(left: &Remaining) -> Explanation
+// The reason of the next array n of what is left of a table.
+fn reason_of(left: &Remaining, n: &mut [u64; 169]) -> Explanation
     requires { 0 < left.now.weight }
     ensures { (g : List ℕ) → Shape left.now.rows left.now.columns g → left.now.entries ≡ grid_of left.now.rows left.now.columns g
         → result ≡ reason_of left.now.rows left.now.columns (round_on left.now.rows left.now.columns left.now.weight g) }
 {
-    let mut n = [0u64; 169];
     let mut l = [0u64; 169];
-    let x = left.next_array(&mut n, &mut l);
+    let x = left.next_array(n, &mut l);
     let k = first_place(&l, x, left.rows, left.columns);
     Explanation {
         entry: entry_at(k),
@@ -64,14 +63,15 @@ pub fn find(t: &Accepted, array: u32) -> Result<Explanation, Refusal>
     ensures { result ≡ reason_answer t.now.sizes.rows t.now.sizes.columns t.now.sizes.denominator t.now.cells.now array }
 {
     let mut left = Remaining::of(t);
+    // one array for all rounds, so that a reason needs less than 10 KB of stack
+    let mut n = [0u64; 169];
     for k in 1..=array {
         if left.weight == 0 {
             break;
         }
         if k == array {
-            return Ok(reason_of(&left));
+            return Ok(reason_of(&left, &mut n));
         }
-        let mut n = [0u64; 169];
         left.one_round(&mut n);
     }
     Err(Refusal::Array)
