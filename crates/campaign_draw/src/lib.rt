@@ -82,8 +82,12 @@ pub fn draw(
     write_array(&p, number, counts);
     add_counts(&counts[..cells], tally);
     set_bit(bits, number as usize);
-    record.taken += 1;
-    close_round(s.denominator, record, bits);
+    let mut next = *record;
+    next.taken += 1;
+    close_round(s.denominator, &mut next, bits);
+    // last, and once: what is stored is never a count of all numbers
+    record.taken = next.taken;
+    record.rounds = next.rounds;
     Ok(())
 }
 

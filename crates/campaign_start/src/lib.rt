@@ -26,10 +26,9 @@ pub fn start(
     let cells = s.rows * s.columns;
     bits[..(s.denominator as usize).div_ceil(8)].fill(0);
     tally[..cells].fill(0);
-    *record = Record {
-        taken: 0,
-        rounds: 0,
-    };
+    // one by one, so that the bytes of a record in C that belong to neither stay
+    record.taken = 0;
+    record.rounds = 0;
     Ok(())
 }
 

@@ -27,8 +27,8 @@ add_counts-requires c = addable _ _ _ _ c.in_ok-p.ensures c.in_ok-p.p.opens c.wr
 pub set_bit-requires : goal.set_bit-requires
 set_bit-requires c = bit_asked _ _ _ _ c.in_ok-p.ensures c.in_ok-p.p.opens
 
-pub overflow_add-record : goal.overflow_add-record
-overflow_add-record c = omega (arith, count_small _ _ _ _ c.in_ok-p.ensures c.in_ok-p.p.opens)
+pub overflow_add-next : goal.overflow_add-next
+overflow_add-next c = omega (arith, count_small _ _ _ _ c.in_ok-p.ensures c.in_ok-p.p.opens)
 
 pub close_round-requires : goal.close_round-requires
 close_round-requires c = round_asked _ _ _ _ c.in_ok-p.ensures c.in_ok-p.p.opens c.set_bit.ensures
